@@ -1,0 +1,9 @@
+pub mod Time
+pub mod Order
+pub mod Rounded
+pub mod Apart
+pub mod Laws
+pub mod Patterns
+pub mod Whole
+pub mod Answers
+pub mod Examples
