@@ -14,7 +14,7 @@ use Rattle.rules.specs.declared.BatcherPhase.{BatcherPhase}
 use Rattle.rules.specs.declared.Message.{Message}
 use Rattle.rules.specs.Sizes.{isId, isPort, isContent, isWord, isAllowance, mostActive}
 use Rattle.rules.specs.Base.{Outcome, refused, done, _>>=_, if_then_else_, those, every, atMost}
-use Rattle.rules.specs.Table.{Table, idAt, parentless}
+use Rattle.rules.specs.Table.{idAt, parentless}
 use Rattle.rules.specs.Intake.{Posted, intake, takenIn}
 use Rattle.rules.specs.Simulation.{State, ofProcessor, ofBatcher, ofStopwatch, ofCoupled, Simulation, freshAll, begun, emptyTable, stateAt}
 use Rattle.rules.specs.Models.{durations, mean}

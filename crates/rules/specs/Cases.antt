@@ -2,7 +2,6 @@
 use Prim.Native.Nat.{ℕ}
 use mathlib.Core.Path.{_≡_, refl}
 use mathlib.Core.List.{List, [], _∷_, _++_}
-use mathlib.Core.Option.{none, some}
 use lib.Ieee.{Float, add, sub, lt, le, eq, fits, ofBits, toBits}
 use Rattle.times.specs.Time.{instant, never, isTime, isTimer, leastOf}
 use Rattle.rules.specs.declared.Refusal.the-variants.{InvalidModelState, Idle}
@@ -10,7 +9,7 @@ use Rattle.rules.specs.declared.Metric.the-variants.{Minimum}
 use Rattle.rules.specs.declared.Message.{Message}
 use Rattle.rules.specs.Table.{coupled, externalInput, internalCoupling}
 use Rattle.rules.specs.Intake.{Posted, intake, passesIntake}
-use Rattle.rules.specs.Simulation.{ofCoupled, Simulation}
+use Rattle.rules.specs.Simulation.{ofCoupled}
 use Rattle.rules.specs.Models.{service, processorExternal, processorInternal, batcherExternal, batcherInternal, stopwatchExternal, stopwatchInternal}
 use Rattle.rules.specs.Step.{timer, external, internal, stepOn}
 use Rattle.rules.specs.Valid.{isValid}

@@ -13,10 +13,11 @@ use Rattle.rules.specs.declared.Refusal.{Refusal}
 use Rattle.rules.specs.declared.Refusal.the-variants.{TooLarge, BadRow, BadCoupling}
 use Rattle.rules.specs.Sizes.{isId, mostRows, mostConnectors, mostCouplings, deepest}
 use Rattle.rules.specs.Base.{if_then_else_, from, some-of, hold}
-use Rattle.rules.specs.Table.{Kind, processor, batcher, stopwatch, coupled, Row, Connector, Coupling, Table, noRow, rowAt, idAt, kindAt, isCoupled, isParent, isParentless, parentless, components}
+use Rattle.rules.specs.Table.{Kind, coupled, Row, Connector, Coupling, Table, noRow, rowAt, idAt, kindAt, isCoupled, isParent, isParentless, parentless, components}
 use Rattle.rules.specs.Intake.{Posted, sizeRules, kindRules, parentFits, depthOf, depthFits, rowRules, connectorRules, couplingRules, Verdict, tooLarge, badRow, badConnector, badCoupling, passed, firstBadRow, firstBad, whole, intake, takenIn, handed, isPassed, passesIntake}
 use Rattle.rules.specs.Step.{levels}
 use Rattle.rules.specs.Ends.{or-l, or-r, or-split, not-or, no-some, All, nil, _&_, all-those, parts, Ends, stops, goes}
+use Rattle.rules.specs.Decides.{tells, coupled-decides, parent-decides, parentless-decides, whole-some, wholeTable}
 
 -- ---- intake's verdict
 -- the sizes fit, and no row is the first bad one
@@ -25,9 +26,6 @@ record Clean (p : Posted) : Type 0 where
   rows : firstBadRow 0 [] (p .rows) ≡ none
   connectors : firstBad connectorRules 0 (p .connectors) ≡ none
   couplings : firstBad (couplingRules (whole (p .rows))) 0 (p .couplings) ≡ none
-
-abbrev wholeTable : Posted → Table
-wholeTable p = record { rows = whole (p .rows); connectors = whole (p .connectors); couplings = whole (p .couplings) }
 
 clean : (p : Posted) (t : Table) → intake p ≡ passed t → Clean p × (wholeTable p ≡ t)
 unfolding intake
@@ -106,10 +104,6 @@ all-pass : {A : Type 0} (rules : A → List Bool) (k : ℕ) (xs : List A) → fi
 all-pass rules k [] e = nil
 all-pass rules k (x ∷ xs) e = let z = if-none (hold (rules x)) (firstBad rules (suc k) (map some xs)) k e in z .0 & all-pass rules (suc k) xs (z .1)
 
-whole-some : {A : Type 0} (xs : List A) → whole (map some xs) ≡ xs
-whole-some [] = refl
-whole-some {A} (x ∷ xs) = ap (λ (z : List A). x ∷ z) (whole-some xs)
-
 -- ---- ids and kinds
 row-fits : {earlier rows : List Row} → Passing earlier rows → (i : ℕ) → All T (kindRules (getD rows i noRow .kind)) × T (isId (getD rows i noRow .id))
 row-fits no-more i = (nil, tt)
@@ -165,12 +159,6 @@ pub record Holder (earlier rows : List Row) (j p : ℕ) : Type 0 where
   pub couples : getD rows at noRow .kind ≡ coupled
   pub deeper : getD (depths earlier rows) j 1 ≡ getD (depths earlier rows) at 1 + 1
 
-is-coupled : (k : Kind) → T (isCoupled k) → k ≡ coupled
-is-coupled (processor x) t = absurd t
-is-coupled (batcher x) t = absurd t
-is-coupled (stopwatch x) t = absurd t
-is-coupled coupled t = refl
-
 coupled-in : (earlier : List Row) (p : ℕ) → T (parentFits earlier (some p)) → T (isIn earlier p)
 coupled-in [] p t = t
 coupled-in (r ∷ earlier) p t = elim (or-split (eqb (r .id) p && isCoupled (r .kind)) (parentFits earlier (some p)) t) [
@@ -192,7 +180,7 @@ holder {earlier} (one-more {r = r} {rs = rs} (a & b & c) q) (suc j) p e = elim (
         → getD (depths (r ∷ earlier) rs) j 1 ≡ (if x then depthOf earlier (r .parent) + 1 else depthOf earlier (some p))
         → Holder earlier (r ∷ rs) (suc j) p ⊎ (T (parentFits earlier (some p)) × (getD (depths (r ∷ earlier) rs) j 1 ≡ depthOf earlier (some p)))
     go true n f g = elim (or-split (isCoupled (r .kind)) (parentFits earlier (some p)) f) [
-      | inl u ↦ inl (record { at = 0; before = omega arith; named = n tt; couples = is-coupled (r .kind) u; deeper = g })
+      | inl u ↦ inl (record { at = 0; before = omega arith; named = n tt; couples = tells (coupled-decides (r .kind)) u; deeper = g })
       | inr u ↦ absurd (T-not (isIn earlier (r .id)) b (subst (λ (z : ℕ). T (isIn earlier z)) (sym (n tt)) (coupled-in earlier p u)))
     ]
     go false n f g = inr (f, g)
@@ -263,14 +251,6 @@ from-below : (j k n : ℕ) → j + k ≤ n → All (λ i. i < n) (from j k)
 from-below j zero n l = nil
 from-below j (suc k) n l = (let z : j < n = omega arith in z) & from-below (suc j) k n (omega arith)
 
-is-parent : (p : ℕ) (o : Option ℕ) → T (isParent p o) → o ≡ some p
-is-parent p none t = absurd t
-is-parent p (some q) t = ap some (eqb→eq q p t)
-
-is-parentless : (o : Option ℕ) → T (isParentless o) → o ≡ none
-is-parentless none t = refl
-is-parentless (some q) t = absurd t
-
 module _ (t : Table) (ok : Fine t) where
   abbrev In : ℕ → Type 0
   In i = i < length (t .rows)
@@ -281,7 +261,7 @@ module _ (t : Table) (ok : Fine t) where
   -- a component is one level below its Coupled
   component-depth : (i j : ℕ) → In i → In j → T (isParent (idAt t i) (rowAt t j .parent)) → depthAt t j ≡ depthAt t i + 1
   component-depth i j l m s =
-      let h = ok .parents j (idAt t i) (is-parent (idAt t i) (rowAt t j .parent) s) in
+      let h = ok .parents j (idAt t i) (tells (parent-decides (idAt t i) (rowAt t j .parent)) s) in
       let b = h .before in
       subst (λ (k : ℕ). depthAt t j ≡ depthAt t k + 1) (ok .unique (h .at) i (omega arith) l (h .named)) (h .deeper)
 
@@ -290,7 +270,7 @@ module _ (t : Table) (ok : Fine t) where
   deep (suc d) i l q e = all-those (λ j. isParent (idAt t i) (rowAt t j .parent)) all-in (λ j m s. deep d j m (let z = component-depth i j l m s in omega arith))
 
   pub parentless-deep : All (Deep t levels) (parentless t)
-  parentless-deep = all-those (λ i. isParentless (rowAt t i .parent)) all-in (λ i l s. deep deepest i l (let z = ok .top i (is-parentless (rowAt t i .parent) s) in omega arith))
+  parentless-deep = all-those (λ i. isParentless (rowAt t i .parent)) all-in (λ i l s. deep deepest i l (let z = ok .top i (tells (parentless-decides (rowAt t i .parent)) s) in omega arith))
 
   -- ---- what holds of the parentless rows with all levels before them, and passes from a Coupled to its components, which have one less, holds of every row
   pub by-parent : (P : ℕ → ℕ → Type 0) → ((i : ℕ) → In i → T (isParentless (rowAt t i .parent)) → P levels i)

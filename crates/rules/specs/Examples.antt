@@ -1,6 +1,6 @@
 -- Small tables, messages and runs that the computed cases are made of. Definitions only. Assumes nothing.
 use Prim.Native.Nat.{ℕ, zero, suc}
-use mathlib.Core.List.{List, [], _∷_, _++_, map}
+use mathlib.Core.List.{List, [], _∷_, map}
 use mathlib.Core.Option.{none, some}
 use lib.ListN.{length}
 use lib.Ieee.{Float, binary64, ofBits, toBits}
@@ -14,7 +14,7 @@ use Rattle.rules.specs.Names.{number}
 use Rattle.rules.specs.Base.{Outcome, refused, done, from}
 use Rattle.rules.specs.Table.{Kind, processor, batcher, stopwatch, Row, Connector, Coupling}
 use Rattle.rules.specs.Intake.{Posted}
-use Rattle.rules.specs.Simulation.{State, ofProcessor, ofBatcher, ofStopwatch, ofCoupled, Marks, Parked, Simulation}
+use Rattle.rules.specs.Simulation.{State, ofProcessor, ofBatcher, ofStopwatch, Marks, Parked, Simulation}
 use Rattle.rules.specs.Calls.{post, handedBack, injectInput, End, Done, Reached, Spent, Refused, Ran, step, stepN}
 
 -- ---- times by their bits

@@ -18,8 +18,12 @@ pub mod PinsTable
 pub mod PinsModels
 pub mod PinsStep
 pub mod PinsCalls
--- what refusal 20 asks is kept by every call
+-- tools
 pub mod Ends
+-- each test decides what its sentence says; each refusal is given exactly when its row says
+pub mod Decides
+pub mod Exactly
+-- what refusal 20 asks is kept by every call
 pub mod Depth
 pub mod Least
 pub mod Kept

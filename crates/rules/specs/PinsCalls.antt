@@ -1,28 +1,28 @@
 -- The calls of 01, and what refusal 20 asks, pinned: each case is computed, and an edit of its sentence breaks it. Assumes nothing.
-use Prim.Native.Nat.{ℕ, zero, suc, _+_, _-_, _^_}
+use Prim.Native.Nat.{ℕ, _+_, _-_, _^_}
 use mathlib.Core.Path.{_≡_, refl}
 use mathlib.Core.Bool.{Bool, true, false}
 use mathlib.Core.List.{List, [], _∷_, _++_, map}
-use mathlib.Core.Option.{Option, none, some}
+use mathlib.Core.Option.{none, some}
 use lib.IntN.{pos}
 use lib.ListN.{replicate}
-use lib.Ieee.{Float, fin, binary64, add, sub, div, ofInt, lt, le, eq, fits, ofBits, toBits}
+use lib.Ieee.{Float, fin, add, sub, div, ofInt, lt, le, eq, fits, ofBits, toBits}
 use Rattle.times.specs.Time.{instant, never, latest, isTime, isTimer, leastOf}
-use Rattle.rules.specs.declared.Refusal.the-variants.{TooLarge, BadRow, ModelNotFound, InvalidMessage, NoMessageRoom, NoServiceTime, BadTime, Idle, NoOutRoom, BadState}
+use Rattle.rules.specs.declared.Refusal.the-variants.{TooLarge, ModelNotFound, NoMessageRoom, BadTime, Idle, NoOutRoom, BadState}
 use Rattle.rules.specs.declared.ProcessorPhase.the-variants as working
 use Rattle.rules.specs.declared.BatcherPhase.the-variants as batching
 use Rattle.rules.specs.declared.StopwatchPhase.the-variants as watching
 use Rattle.rules.specs.declared.Metric.the-variants.{Minimum}
 use Rattle.rules.specs.declared.Message.{Message}
-use Rattle.rules.specs.Base.{Outcome, refused, done, from, hold}
-use Rattle.rules.specs.Table.{processor, batcher, stopwatch, coupled, Row, Table, Kind}
+use Rattle.rules.specs.Base.{refused, done, from, hold}
+use Rattle.rules.specs.Table.{coupled, Row, Table, Kind}
 use Rattle.rules.specs.Intake.{Posted, intake, passesIntake}
-use Rattle.rules.specs.Simulation.{State, ofProcessor, ofBatcher, ofStopwatch, ofCoupled, Marks, Parked, Simulation, begun, emptyTable}
-use Rattle.rules.specs.Models.{service, processorExternal, processorInternal, batcherExternal, batcherInternal, stopwatchExternal, stopwatchInternal}
-use Rattle.rules.specs.Step.{timer, external, internal, stepOn}
+use Rattle.rules.specs.Simulation.{State, ofStopwatch, ofCoupled, Marks, Simulation, begun, emptyTable}
+use Rattle.rules.specs.Models.{Kept, service, processorExternal, processorInternal, batcherExternal, batcherInternal, stopwatchExternal, stopwatchInternal}
+use Rattle.rules.specs.Step.{came, went, waited, outAt, timer, external, internal, stepOn}
 use Rattle.rules.specs.Valid.{isValid, modelFits, processorExternalCall, processorInternalCall, batcherExternalCall, batcherInternalCall, stopwatchExternalCall, stopwatchInternalCall}
-use Rattle.rules.specs.Calls.{post, handedBack, put, injectInput, reset, resetMessages, resetGlobalTime, End, Done, Reached, Spent, Refused, Ran, steps, stepN, step, stepsUntil, stepUntil, getMessages, getGlobalTime, Status, OfProcessor, OfBatcher, Mean, ParkedCount, getStatus, Call, InjectInput, Step, StepN, StepUntil, Reset, ResetMessages, ResetGlobalTime, callRules}
-use Rattle.rules.specs.Examples.{at, one, two, three, four, five, six, ten, minusZero, posted, row, within, aBatcher, aProcessor, aStopwatch, link, active, passive, batch, release, noBatch, watch, parkedAt, message, job, jobs, contents, given, ending}
+use Rattle.rules.specs.Calls.{post, handedBack, put, injectInput, reset, resetMessages, resetGlobalTime, End, Done, Reached, Spent, Refused, Ran, ended, steps, stepN, step, stepsUntil, stepUntil, getMessages, getGlobalTime, OfProcessor, OfBatcher, Mean, ParkedCount, getStatus, Call, InjectInput, Step, StepN, StepUntil, Reset, ResetMessages, ResetGlobalTime, called, calls, callRules}
+use Rattle.rules.specs.Examples.{at, one, two, three, four, five, six, ten, minusZero, posted, row, within, aBatcher, aProcessor, aStopwatch, link, active, passive, batch, release, noBatch, watch, parkedAt, message, job, jobs, given}
 
 -- ---- a simulation in the midst of a run: a processor 1, a batcher 2 (m = 2), a stopwatch 3, a Coupled 4 with a batcher 5
 abbrev floor : List Row
@@ -151,6 +151,16 @@ batchEnds = record {
   place = 0;
 }
 
+-- a batcher (m = 2) to which three jobs come at once: two leave, then none, then the third at its batch time
+abbrev uneven : Simulation
+uneven = record {
+  table = record { rows = row 1 (aBatcher 2 ten) ∷ []; connectors = link 1 2 8 1 ∷ []; couplings = [] };
+  states = noBatch ∷ [];
+  active = jobs 1 3;
+  clock = three;
+  place = 0;
+}
+
 -- a batcher that releases 52 jobs along five connectors
 abbrev crowded : Simulation
 crowded = record {
@@ -188,7 +198,13 @@ pub record Running : Type 0 where
   -- "`step_n` .. collects the messages of all its steps, and ends Done or by a refusal, with its number of completed steps"
   pub n-0 : ranN 0 0 going ≡ record { end = Done; steps = 0; rows = []; left = 1 ∷ []; clock = three }
   pub n-3 : ranN 3 3 going ≡ record { end = Done; steps = 3; rows = 2 ∷ 1 ∷ 2 ∷ []; left = 2 ∷ []; clock = three }
+  -- the room that is left is less the rows collected so far: here 2, 0 and 1
+  pub n-room-3 : ranN 3 3 uneven ≡ record { end = Done; steps = 3; rows = 8 ∷ 8 ∷ 8 ∷ []; left = 8 ∷ []; clock = at 0x402A_0000_0000_0000 }
+  pub n-room-2 : ranN 2 3 uneven ≡ record { end = Refused NoOutRoom; steps = 2; rows = 8 ∷ 8 ∷ []; left = []; clock = three }
+  pub until-room-3 : ranUntil latest 3 3 uneven ≡ record { end = Spent; steps = 3; rows = 8 ∷ 8 ∷ 8 ∷ []; left = 8 ∷ []; clock = at 0x402A_0000_0000_0000 }
+  pub until-room-2 : ranUntil latest 2 3 uneven ≡ record { end = Refused NoOutRoom; steps = 2; rows = 8 ∷ 8 ∷ []; left = []; clock = three }
   -- "`step` is `step_n` for one step"
+  pub one-step-no-room : see (step [] 0 going) ≡ record { end = Refused NoOutRoom; steps = 0; rows = []; left = 1 ∷ []; clock = three }
   pub one-step : see (step [] 1 going) ≡ record { end = Done; steps = 1; rows = 2 ∷ []; left = 2 ∷ []; clock = three }
   -- "`step_n` and `step_until` stop at the refused step: they keep earlier steps and rows, and return number, steps and rows." 13: "a step's rows must be collected, .. and they don't fit"
   pub n-no-room : ranN 2 5 going ≡ record { end = Refused NoOutRoom; steps = 2; rows = 2 ∷ 1 ∷ []; left = 1 ∷ []; clock = three }
@@ -229,6 +245,11 @@ unfolding ranN ranUntil step stepN steps stepUntil stepsUntil put injectInput re
 running = record {
   n-0 = refl;
   n-3 = refl;
+  n-room-3 = refl;
+  n-room-2 = refl;
+  until-room-3 = refl;
+  until-room-2 = refl;
+  one-step-no-room = refl;
   one-step = refl;
   n-no-room = refl;
   n-idle = refl;
@@ -457,6 +478,39 @@ alone = record {
   stopwatch-inside-works = refl;
 }
 
+-- ---- the calls as data, each handed the simulation that the one before left
+abbrev fourCalls : List Call
+fourCalls = InjectInput (job 1 1 11) ∷ StepN [] 9 2 ∷ ResetMessages ∷ Step [] 9 ∷ []
+
+pub record AsData : Type 0 where
+  pub inject-call : called (InjectInput (job 1 1 11)) (ring []) ≡ ended Done going
+  pub inject-call-refused : called (InjectInput badTime) midst ≡ ended (Refused BadTime) midst
+  pub reset-call : called Reset midst ≡ ended Done (record { table = floorTable; states = floorStates; active = []; clock = instant; place = 5 })
+  pub reset-messages-call : called ResetMessages midst ≡ ended Done (withStates floorStates)
+  pub reset-time-call : called ResetGlobalTime midst ≡ ended Done (record { table = floorTable; states = floorStates; active = job 9 1 21 ∷ []; clock = instant; place = 5 })
+  pub step-call : see (called (Step [] 0) going) ≡ record { end = Refused NoOutRoom; steps = 0; rows = []; left = 1 ∷ []; clock = three }
+  pub n-call : see (called (StepN [] 2 5) going) ≡ record { end = Refused NoOutRoom; steps = 2; rows = 2 ∷ 1 ∷ []; left = 1 ∷ []; clock = three }
+  pub until-call : see (called (StepUntil [] six 1 9) going) ≡ record { end = Refused NoOutRoom; steps = 1; rows = 2 ∷ []; left = 2 ∷ []; clock = three }
+  -- a refused call in a list changes nothing, and what happened is told in order
+  pub four-calls : calls fourCalls (ring []) ≡ (
+    ring [],
+    came three 0 1 11 Kept ∷ waited instant ∷ went three 0 (outAt 2 11 ∷ []) ∷ came three 1 1 11 Kept ∷ waited instant ∷ went three 1 (outAt 2 11 ∷ []) ∷ [],
+  )
+
+pub as-data : AsData
+unfolding called step stepN steps stepUntil stepsUntil injectInput reset resetMessages resetGlobalTime isValid isTime isTimer leastOf add sub lt le eq fits ofBits toBits service processorExternal processorInternal batcherExternal batcherInternal stopwatchExternal stopwatchInternal timer external internal stepOn intake passesIntake
+as-data = record {
+  inject-call = refl;
+  inject-call-refused = refl;
+  reset-call = refl;
+  reset-messages-call = refl;
+  reset-time-call = refl;
+  step-call = refl;
+  n-call = refl;
+  until-call = refl;
+  four-calls = refl;
+}
+
 -- ---- "Ids and ports are 16-bit numbers and contents 32-bit ones at every call", "a 64-bit count", "the allowance is a 32-bit number": each at and over its width
 abbrev keeps : Call → Bool
 keeps c = hold (callRules c)
@@ -473,10 +527,11 @@ pub record Numbers : Type 0 where
   pub step-last : keeps (Step (never ∷ minusZero ∷ []) (2 ^ 64 - 1)) ≡ true
   pub step-room : keeps (Step [] (2 ^ 64)) ≡ false
   pub step-services : keeps (Step (one ∷ fin false 1 (pos 2000) ∷ []) 1) ≡ false
-  pub count-last : keeps (StepN [] 1 (2 ^ 64 - 1)) ≡ true
+  pub count-last : keeps (StepN [] (2 ^ 64 - 1) (2 ^ 64 - 1)) ≡ true
+  pub count-room : keeps (StepN [] (2 ^ 64) 1) ≡ false
   pub count-over : keeps (StepN [] 1 (2 ^ 64)) ≡ false
   pub count-services : keeps (StepN (fin false 1 (pos 2000) ∷ []) 1 1) ≡ false
-  pub allowance-last : keeps (StepUntil [] never 1 (2 ^ 32 - 1)) ≡ true
+  pub allowance-last : keeps (StepUntil [] never (2 ^ 64 - 1) (2 ^ 32 - 1)) ≡ true
   pub allowance-over : keeps (StepUntil [] never 1 (2 ^ 32)) ≡ false
   pub until-no-f64 : keeps (StepUntil [] (fin false 1 (pos 2000)) 1 1) ≡ false
   pub until-room : keeps (StepUntil [] one (2 ^ 64) 1) ≡ false
@@ -496,6 +551,7 @@ numbers = record {
   step-room = refl;
   step-services = refl;
   count-last = refl;
+  count-room = refl;
   count-over = refl;
   count-services = refl;
   allowance-last = refl;

@@ -1,14 +1,11 @@
 -- "The four models" of 01, the three atoms, pinned: each case is computed, and an edit of its sentence breaks it. Assumes nothing.
 use Prim.Native.Nat.{ℕ, _+_, _-_, _^_}
 use mathlib.Core.Path.{_≡_, refl}
-use mathlib.Core.Bool.{Bool, true, false}
 use mathlib.Core.List.{List, [], _∷_, _++_, map}
 use mathlib.Core.Option.{Option, none, some}
-use lib.ListN.{take}
 use lib.Ieee.{Float, add, sub, div, ofInt, lt, le, fits, ofBits}
 use Rattle.times.specs.Time.{instant, never, isTime}
 use Rattle.rules.specs.declared.Refusal.the-variants.{InvalidMessage, InvalidModelState, NoQueueRoom, NoServiceTime, BadTime}
-use Rattle.rules.specs.declared.ProcessorPhase.{ProcessorPhase}
 use Rattle.rules.specs.declared.ProcessorPhase.the-variants as working
 use Rattle.rules.specs.declared.BatcherPhase.{BatcherPhase}
 use Rattle.rules.specs.declared.BatcherPhase.the-variants as batching
@@ -20,8 +17,8 @@ use Rattle.rules.specs.declared.Processor.{Processor}
 use Rattle.rules.specs.declared.Batcher.{Batcher}
 use Rattle.rules.specs.declared.Stopwatch.{Stopwatch}
 use Rattle.rules.specs.Base.{Outcome, refused, done, from}
-use Rattle.rules.specs.Table.{processor, batcher, stopwatch, coupled}
-use Rattle.rules.specs.Simulation.{ProcessorState, BatcherState, StopwatchState, Marks, State, ofProcessor, ofBatcher, ofStopwatch, ofCoupled, fresh}
+use Rattle.rules.specs.Table.{coupled}
+use Rattle.rules.specs.Simulation.{ProcessorState, BatcherState, StopwatchState, Marks, ofProcessor, ofBatcher, ofStopwatch, ofCoupled, fresh}
 use Rattle.rules.specs.Models.{Fate, Started, Kept, Dropped, Marked, Asked, service, processorExternal, processorInternal, batcherExternal, batcherInternal, stopwatchExternal, stopwatchInternal, durations, mean}
 use Rattle.rules.specs.Examples.{at, one, two, three, four, five, ten, minusZero, aBatcher, aProcessor, aStopwatch}
 

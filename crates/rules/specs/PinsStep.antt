@@ -1,23 +1,23 @@
 -- The Coupled and the step of 01, pinned: each case is computed, and an edit of its sentence breaks it. Assumes nothing.
-use Prim.Native.Nat.{ℕ, zero, suc, _+_}
+use Prim.Native.Nat.{ℕ, _+_}
 use mathlib.Core.Path.{_≡_, refl}
-use mathlib.Core.List.{List, [], _∷_, _++_, map}
-use mathlib.Core.Option.{Option, none, some}
+use mathlib.Core.List.{List, [], _∷_, _++_}
+use mathlib.Core.Option.{none, some}
 use lib.ListN.{replicate}
-use lib.Ieee.{Float, binary64, add, sub, lt, le, eq, fits, ofBits, toBits}
+use lib.Ieee.{Float, add, sub, lt, le, eq, fits, ofBits, toBits}
 use Rattle.times.specs.Time.{instant, never, latest, isTime, isTimer, leastOf}
-use Rattle.rules.specs.declared.Refusal.the-variants.{InvalidMessage, InvalidModelState, NoQueueRoom, NoMessageRoom, NoServiceTime, ClockOverflow, Idle}
+use Rattle.rules.specs.declared.Refusal.the-variants.{InvalidMessage, InvalidModelState, NoMessageRoom, NoServiceTime, ClockOverflow, Idle}
 use Rattle.rules.specs.declared.StopwatchPhase.the-variants as watching
 use Rattle.rules.specs.declared.Metric.the-variants.{Minimum}
 use Rattle.rules.specs.declared.Message.{Message}
 use Rattle.rules.specs.Base.{from}
 use Rattle.rules.specs.Table.{coupled, Row, Connector, Coupling, externalInput, externalOutput, internalCoupling, Table}
 use Rattle.rules.specs.Intake.{intake, passesIntake}
-use Rattle.rules.specs.Simulation.{State, ofStopwatch, ofCoupled, Marks, Simulation}
-use Rattle.rules.specs.Models.{Started, Kept, Marked, Passed, service, processorExternal, processorInternal, batcherExternal, batcherInternal, stopwatchExternal, stopwatchInternal}
-use Rattle.rules.specs.Step.{Happening, came, went, waited, Out, outAt, timer, external, internal, stepOn}
+use Rattle.rules.specs.Simulation.{State, ofStopwatch, ofCoupled, Simulation}
+use Rattle.rules.specs.Models.{Started, Kept, Marked, Asked, Passed, service, processorExternal, processorInternal, batcherExternal, batcherInternal, stopwatchExternal, stopwatchInternal}
+use Rattle.rules.specs.Step.{Happening, came, went, waited, outAt, timer, external, internal, stepOn}
 use Rattle.rules.specs.Valid.{isValid}
-use Rattle.rules.specs.Calls.{End, Done, Refused, Ran, steps, stepN, step}
+use Rattle.rules.specs.Calls.{End, Done, Refused, steps, stepN, step}
 use Rattle.rules.specs.Examples.{at, one, two, three, four, five, six, ten, row, within, aBatcher, aProcessor, aStopwatch, link, active, passive, batch, release, noBatch, watch, parkedAt, message, job, jobs}
 
 -- ---- a simulation with its states handed in, at a clock, with the service times 4, 5, 6 from their start on
@@ -263,6 +263,16 @@ pub record Steps : Type 0 where
         place = 0;
         log = waited two ∷ came five 3 1 21 Marked ∷ went five 2 (outAt 2 22 ∷ []) ∷ went five 0 [] ∷ [];
       }
+  -- a stopwatch that is asked puts out in that step
+  pub fetches : stepOf (simulation (tableOf (row 1 (aStopwatch Minimum) ∷ []) (link 1 4 9 9 ∷ []) []) (watch (record { name = 21; start = some one; stop = some two } ∷ []) ∷ []) (job 1 3 0 ∷ []) three)
+      ≡ record {
+        end = Done;
+        states = watch (record { name = 21; start = some one; stop = some two } ∷ []) ∷ [];
+        active = message 1 4 9 9 three 21 ∷ [];
+        clock = three;
+        place = 0;
+        log = came three 0 3 0 Asked ∷ waited instant ∷ went three 0 (outAt 4 21 ∷ []) ∷ [];
+      }
   -- the port and the content are the message's
   pub port-taken : endOf (inHall [] quiet (job 1 2 21 ∷ []) three) ≡ Refused InvalidMessage
   -- the first refusal met is given: here the one at row 1, after row 0 started its job, which is undone
@@ -317,6 +327,7 @@ steps-taken = record {
   places-kept = refl;
   watches = refl;
   watches-parked = refl;
+  fetches = refl;
   port-taken = refl;
   first-refusal = refl;
   row-order = refl;

@@ -1,15 +1,14 @@
 -- "Sizes and numbers", refusals 1 to 3 and docs/LAYOUT.md, pinned: each case is computed, and an edit of its sentence breaks it. Assumes nothing.
 use Prim.Native.Nat.{ℕ, _+_, _-_, _^_}
 use mathlib.Core.Path.{_≡_, refl}
-use mathlib.Core.Bool.{Bool, true, false}
 use mathlib.Core.List.{List, [], _∷_, _++_, map}
-use mathlib.Core.Option.{Option, none, some}
+use mathlib.Core.Option.{none, some}
 use lib.ListN.{replicate}
 use lib.Ieee.{le, fits, ofBits, toBits}
 use Rattle.times.specs.Time.{never, isTime}
 use Rattle.rules.specs.declared.Metric.the-variants.{Minimum, Maximum}
 use Rattle.rules.specs.Base.{from}
-use Rattle.rules.specs.Table.{Kind, processor, batcher, stopwatch, coupled, Row, Connector, Coupling, externalInput, externalOutput, internalCoupling, Table}
+use Rattle.rules.specs.Table.{Kind, processor, batcher, stopwatch, coupled, Row, Connector, Coupling, externalInput, externalOutput, internalCoupling}
 use Rattle.rules.specs.Intake.{Posted, Verdict, tooLarge, badRow, badConnector, badCoupling, passed, intake, takenIn}
 use Rattle.rules.specs.Layout.{modelRow, connectorRow, couplingRow, lent, written, roomIn, laidDown}
 use Rattle.rules.specs.Examples.{ten, minusZero, posted, row, within, aBatcher, aProcessor, aStopwatch, link, message, given, at}
@@ -137,6 +136,8 @@ pub record Rows : Type 0 where
   -- "A Coupled may hold another Coupled, to depth 4 (a row without parent has depth 1)."
   pub depth-4 : ofRows (nested 4) ≡ ok
   pub depth-5 : ofRows (nested 5) ≡ (2, 4)
+  pub depth-4-later : ofRows (row 9 coupled ∷ nested 4) ≡ ok
+  pub depth-5-later : ofRows (row 9 coupled ∷ nested 5) ≡ (2, 5)
   pub atom-in-4 : ofRows (nested 4 ++ within 4 5 (aProcessor 1) ∷ []) ≡ ok
   pub depth-beside : ofRows (nested 4 ++ within 3 5 coupled ∷ within 1 6 coupled ∷ []) ≡ ok
   pub depth-far : ofRows (nested 4 ++ row 6 coupled ∷ within 4 5 coupled ∷ []) ≡ (2, 5)
@@ -183,6 +184,8 @@ rows = record {
   parent-stopwatch = refl;
   depth-4 = refl;
   depth-5 = refl;
+  depth-4-later = refl;
+  depth-5-later = refl;
   atom-in-4 = refl;
   depth-beside = refl;
   depth-far = refl;
@@ -306,6 +309,10 @@ pub record Words : Type 0 where
   pub parent-given : modelRow (words 4 1 (5 ∷ 0 ∷ 0 ∷ 0 ∷ 0 ∷ 0 ∷ 0 ∷ [])) ≡ some (within 5 7 coupled)
   pub parent-omitted : modelRow (words 4 6 (2 ^ 16 ∷ 0 ∷ 0 ∷ 0 ∷ 0 ∷ 2 ^ 63 ∷ 2 ^ 63 ∷ [])) ≡ some (row 7 coupled)
   pub all-given : modelRow (words 1 7 (5 ∷ 1 ∷ 0 ∷ 0 ∷ 2 ∷ 8 ∷ 0 ∷ [])) ≡ some (within 5 7 (aProcessor 8))
+  pub metric-among-all : modelRow (words 3 7 (5 ∷ 1 ∷ 2 ∷ 3 ∷ 4 ∷ 1 ∷ 0 ∷ [])) ≡ some (within 5 7 (aStopwatch Maximum))
+  pub metric-with-capacity : modelRow (words 3 6 (5 ∷ 1 ∷ 2 ∷ 3 ∷ 4 ∷ 1 ∷ 0 ∷ [])) ≡ some (row 7 (aStopwatch Maximum))
+  pub all-but-metric : modelRow (words 3 3 (5 ∷ 1 ∷ 2 ∷ 3 ∷ 4 ∷ 1 ∷ 0 ∷ [])) ≡ some (within 5 7 (aStopwatch Minimum))
+  pub all-but-capacity : modelRow (words 1 5 (5 ∷ 1 ∷ 0 ∷ 0 ∷ 2 ∷ 8 ∷ 0 ∷ [])) ≡ some (within 5 7 (aProcessor (2 ^ 64 - 1)))
   pub given-8 : modelRow (words 4 8 (0 ∷ 0 ∷ 0 ∷ 0 ∷ 0 ∷ 0 ∷ 0 ∷ [])) ≡ none
   -- every port cell keeps its width, used by the kind or not
   pub unused-processor-2 : modelRow (words 1 2 (0 ∷ 1 ∷ wide ∷ 0 ∷ 2 ∷ 8 ∷ 0 ∷ [])) ≡ none
@@ -361,6 +368,10 @@ words-read = record {
   parent-given = refl;
   parent-omitted = refl;
   all-given = refl;
+  metric-among-all = refl;
+  metric-with-capacity = refl;
+  all-but-metric = refl;
+  all-but-capacity = refl;
   given-8 = refl;
   unused-processor-2 = refl;
   unused-processor-3 = refl;

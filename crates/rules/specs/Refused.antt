@@ -1,6 +1,6 @@
 -- A refused call changes nothing, and a run that is refused keeps the steps before: the first theorems over the calls. Assumes nothing.
 use Prim.Native.Nat.{ℕ, zero, suc, _-_, _≤_}
-use mathlib.Core.Path.{_≡_, refl, sym, ap, _∙_, subst}
+use mathlib.Core.Path.{_≡_, refl, ap, _∙_}
 use mathlib.Core.Bool.{Bool, true, false, not}
 use mathlib.Core.List.{List, []}
 use native.Mathlib.Omega.{arith}
@@ -10,7 +10,6 @@ use lib.Ieee.{Float, lt}
 use Rattle.times.specs.Time.{isTime}
 use Rattle.rules.specs.declared.Refusal.{Refusal}
 use Rattle.rules.specs.declared.Refusal.the-variants.{BadTime, NoOutRoom, BadState}
-use Rattle.rules.specs.declared.Message.{Message}
 use Rattle.rules.specs.Base.{Outcome, refused, done, _>>=_, if_then_else_}
 use Rattle.rules.specs.Simulation.{Simulation}
 use Rattle.rules.specs.Step.{Happening, oneStep}

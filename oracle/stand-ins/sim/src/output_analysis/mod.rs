@@ -1,0 +1,1 @@
+//! Stand-in. Not carried over, and used by nothing here.
