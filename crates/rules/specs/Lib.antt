@@ -32,3 +32,4 @@ pub mod Runs
 -- theorems on the whole
 pub mod Ghost
 pub mod Refused
+pub mod Idle

@@ -291,6 +291,9 @@ pub record Steps : Type 0 where
         place = 0;
         log = waited two ∷ went five 1 (outAt 2 8 ∷ []) ∷ [];
       }
+  pub advance-stopwatch : statesOf (simulation (tableOf (row 1 (aStopwatch Minimum) ∷ row 2 (aBatcher 2 ten) ∷ []) [] [])
+      (ofStopwatch (record { phase = watching.Passive; timer = four; jobs = [] }) ∷ batch (8 ∷ []) two ∷ []) [] three)
+      ≡ ofStopwatch (record { phase = watching.Passive; timer = two; jobs = [] }) ∷ noBatch ∷ []
   pub advance-inside : stepOf (inHall [] (passive [] never ∷ active (8 ∷ []) four ∷ noBatch ∷ ofCoupled [] ∷ batch (9 ∷ []) one ∷ []) [] three) .clock ≡ four
   -- "Infinite: refusal 12.": 12 "a step with no active message and every timer infinite"
   pub idle : stepOf (inHall [] quiet [] three) ≡ record { end = Refused Idle; states = quiet; active = []; clock = three; place = 0; log = [] }
@@ -333,6 +336,7 @@ steps-taken = record {
   row-order = refl;
   advance-zero = refl;
   advance-least = refl;
+  advance-stopwatch = refl;
   advance-inside = refl;
   idle = refl;
   not-idle = refl;

@@ -1,0 +1,13 @@
+pub mod Common
+pub mod Oracle01
+pub mod Oracle02
+pub mod Oracle03
+pub mod Oracle04
+pub mod Oracle05
+pub mod Oracle06
+pub mod Oracle07
+pub mod Oracle08
+pub mod Oracle09
+pub mod Oracle10
+pub mod Oracle11
+pub mod Oracle12

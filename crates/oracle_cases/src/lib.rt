@@ -1,0 +1,1 @@
+// Computed cases only: specs/ holds them.
