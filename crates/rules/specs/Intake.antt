@@ -36,10 +36,14 @@ kindRules coupled = []
 abbrev pub isNew : List Row → ℕ → Bool
 isNew earlier id = not (some-of (λ (r : Row). eqb (r .id) id) earlier)
 
+-- one of the rows has the id, and is a Coupled
+abbrev pub isCoupledId : List Row → ℕ → Bool
+isCoupledId rows id = some-of (λ (r : Row). eqb (r .id) id && isCoupled (r .kind)) rows
+
 -- "A component's row names its parent, which is an earlier row and a Coupled."
 abbrev pub parentFits : List Row → Option ℕ → Bool
 parentFits earlier none = true
-parentFits earlier (some parent) = some-of (λ (r : Row). eqb (r .id) parent && isCoupled (r .kind)) earlier
+parentFits earlier (some parent) = isCoupledId earlier parent
 
 -- "(a row without parent has depth 1)", and a component is one deeper than its parent
 abbrev pub depthOf : List Row → Option ℕ → ℕ
@@ -57,9 +61,6 @@ rowRules earlier r = isId (r .id) ∷ isNew earlier (r .id) ∷ parentFits earli
 -- ---- 3: "a coupling's owner is no Coupled, an external input coupling's target is not its component, or a connector or coupling .. has a field beyond its width". "Connectors and other couplings may name ids that don't exist".
 abbrev pub connectorRules : Connector → List Bool
 connectorRules c = isId (c .source) ∷ isPort (c .sourcePort) ∷ isId (c .target) ∷ isPort (c .targetPort) ∷ []
-
-abbrev pub isCoupledId : List Row → ℕ → Bool
-isCoupledId rows owner = some-of (λ (r : Row). eqb (r .id) owner && isCoupled (r .kind)) rows
 
 abbrev pub isComponentOf : List Row → ℕ → ℕ → Bool
 isComponentOf rows owner target = some-of (λ (r : Row). eqb (r .id) target && isParent owner (r .parent)) rows

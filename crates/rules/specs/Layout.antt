@@ -9,7 +9,7 @@ use lib.Ieee.{binary64, ofBits, toBits}
 use Rattle.rules.specs.declared.Metric.{Metric}
 use Rattle.rules.specs.declared.Metric.the-variants.{Minimum, Maximum}
 use Rattle.rules.specs.declared.Message.{Message}
-use Rattle.rules.specs.Sizes.{isPort, omittedCapacity}
+use Rattle.rules.specs.Sizes.{isId, isPort, omittedCapacity}
 use Rattle.rules.specs.Base.{if_then_else_, every, hold, isEmpty}
 use Rattle.rules.specs.Table.{Kind, processor, batcher, stopwatch, coupled, Row, Connector, Coupling, externalInput, externalOutput, internalCoupling}
 use Rattle.rules.specs.Intake.{Posted}
@@ -100,7 +100,7 @@ couplingIn row =
 
 abbrev pub wholeCoupling : List ℕ → Option (Coupling × ℕ) → Option Coupling
 wholeCoupling row none = none
-wholeCoupling row (some (coupling, unused)) = if hold (eqb (length row) couplingWidth ∷ isPort unused ∷ []) then some coupling else none
+wholeCoupling row (some (coupling, unused)) = if hold (eqb (length row) couplingWidth ∷ isId unused ∷ []) then some coupling else none
 
 abbrev pub couplingRow : List ℕ → Option Coupling
 couplingRow row = wholeCoupling row (couplingIn row)

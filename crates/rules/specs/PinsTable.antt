@@ -328,9 +328,9 @@ pub record Words : Type 0 where
   pub model-short : modelRow (words 4 0 (0 ∷ 0 ∷ 0 ∷ 0 ∷ 0 ∷ 0 ∷ [])) ≡ none
   pub connector-whole : connectorRow (1 ∷ 2 ∷ 3 ∷ 4 ∷ []) ≡ some (link 1 2 3 4)
   pub connector-short : connectorRow (1 ∷ 2 ∷ 3 ∷ []) ≡ none
-  pub input-row : couplingRow (1 ∷ 1 ∷ 0 ∷ 3 ∷ 4 ∷ 5 ∷ []) ≡ some (externalInput 1 3 4 5)
-  pub output-row : couplingRow (1 ∷ 2 ∷ 6 ∷ 3 ∷ 0 ∷ 5 ∷ []) ≡ some (externalOutput 1 6 3 5)
-  pub internal-row : couplingRow (1 ∷ 3 ∷ 6 ∷ 3 ∷ 4 ∷ 5 ∷ []) ≡ some (internalCoupling 1 6 3 4 5)
+  pub input-row : couplingRow (7 ∷ 1 ∷ 0 ∷ 3 ∷ 4 ∷ 5 ∷ []) ≡ some (externalInput 7 3 4 5)
+  pub output-row : couplingRow (7 ∷ 2 ∷ 6 ∷ 3 ∷ 0 ∷ 5 ∷ []) ≡ some (externalOutput 7 6 3 5)
+  pub internal-row : couplingRow (7 ∷ 3 ∷ 6 ∷ 8 ∷ 4 ∷ 5 ∷ []) ≡ some (internalCoupling 7 6 8 4 5)
   pub coupling-kind-0 : couplingRow (1 ∷ 0 ∷ 6 ∷ 3 ∷ 4 ∷ 5 ∷ []) ≡ none
   pub coupling-kind-4 : couplingRow (1 ∷ 4 ∷ 6 ∷ 3 ∷ 4 ∷ 5 ∷ []) ≡ none
   pub coupling-short : couplingRow (1 ∷ 3 ∷ 6 ∷ 3 ∷ 4 ∷ []) ≡ none
