@@ -15,7 +15,7 @@ use Rattle.rules.specs.declared.StopwatchPhase.the-variants as watching
 use Rattle.rules.specs.declared.Metric.the-variants.{Minimum}
 use Rattle.rules.specs.declared.Message.{Message}
 use Rattle.rules.specs.Base.{refused, done, from, hold}
-use Rattle.rules.specs.Table.{coupled, Row, Table, Kind}
+use Rattle.rules.specs.Table.{coupled, Row, Table, Kind, externalInput}
 use Rattle.rules.specs.Intake.{Posted, intake, passesIntake}
 use Rattle.rules.specs.Simulation.{State, ofStopwatch, ofCoupled, Marks, Simulation, begun, emptyTable}
 use Rattle.rules.specs.Models.{Kept, service, processorExternal, processorInternal, batcherExternal, batcherInternal, stopwatchExternal, stopwatchInternal}
@@ -319,6 +319,7 @@ pub record Asked : Type 0 where
   pub table-2 : fitsOne (aBatcher 0 ten) noBatch ≡ false
   pub table-1 : isValid (begun (record { rows = map (λ k. row k coupled) (from 1 65); connectors = []; couplings = [] })) ≡ false
   pub table-3 : isValid (begun (record { rows = []; connectors = link wide 1 1 1 ∷ []; couplings = [] })) ≡ false
+  pub table-3-coupling : isValid (begun (record { rows = row 1 coupled ∷ []; connectors = []; couplings = externalInput 1 1 2 1 ∷ [] })) ≡ false
   -- a state for each row, of the row's kind
   pub states-few : isValid (withStates []) ≡ false
   pub states-many : isValid (withStates (floorStates ++ noBatch ∷ [])) ≡ false
@@ -387,6 +388,7 @@ asked = record {
   table-2 = refl;
   table-1 = refl;
   table-3 = refl;
+  table-3-coupling = refl;
   states-few = refl;
   states-many = refl;
   kind-processor = refl;
