@@ -131,12 +131,6 @@ pub ends-both : {A : Type 0} {B C : Refusal → Type 0} {Q R : A → Type 0} {o 
 ends-both (stops b) y = stops b
 ends-both (goes h) (goes k) = goes (h, k)
 
-pub ends-done : {A : Type 0} {B : Refusal → Type 0} {Q : A → Type 0} {o : Outcome A} {a : A} → Ends B Q o → o ≡ done a → Q a
-ends-done {A = A} {B = B} {Q = Q} {a = a} h e = go (subst (λ (z : Outcome A). Ends B Q z) e h)
-  where
-    go : Ends B Q (done a) → Q a
-    go (goes k) = k
-
 pub ends-refused : {A : Type 0} {B : Refusal → Type 0} {Q : A → Type 0} {o : Outcome A} {r : Refusal} → Ends B Q o → o ≡ refused r → B r
 ends-refused {A = A} {B = B} {Q = Q} {r = r} h e = go (subst (λ (z : Outcome A). Ends B Q z) e h)
   where

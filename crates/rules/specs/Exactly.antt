@@ -6,7 +6,7 @@ use mathlib.Core.Bool.{Bool, true, false, not, _&&_, cond}
 use mathlib.Core.List.{List, [], _∷_, _++_, map}
 use mathlib.Core.Option.{none}
 use native.Mathlib.Omega.{arith}
-use lib.ListN.{length, getD, length-append}
+use lib.ListN.{length, getD, length-append, length-map}
 use lib.Dec.{T, leb, ltb, eqb}
 use lib.Ieee.{Float, binary64, add}
 use Rattle.times.specs.Time.{instant, isNever, isTime}
@@ -22,14 +22,14 @@ use Rattle.rules.specs.declared.Stopwatch.{Stopwatch}
 use Rattle.rules.specs.declared.Message.{Message}
 use Rattle.rules.specs.Names.{number}
 use Rattle.rules.specs.Sizes.{mostJobs, mostParked, mostOut, mostActive}
-use Rattle.rules.specs.Base.{Outcome, refused, done, _>>=_, if_then_else_, each, those, some-of, isEmpty}
+use Rattle.rules.specs.Base.{Outcome, refused, done, _>>=_, if_then_else_, each, those, some-of, isEmpty, atMost}
 use Rattle.rules.specs.Table.{Kind, processor, batcher, stopwatch, coupled, Table, Target, rowAt, idAt, kindAt, components, inputs, outputs, internals, parentless, connected}
 use Rattle.rules.specs.Intake.{Posted, Verdict, tooLarge, badRow, badConnector, badCoupling, passed, intake, takenIn}
 use Rattle.rules.specs.Simulation.{ProcessorState, BatcherState, Marks, StopwatchState, Parked, ofCoupled, ofProcessor, ofBatcher, ofStopwatch, Simulation, begun, stateAt, asProcessor, asBatcher, asStopwatch, asCoupled}
 use Rattle.rules.specs.Models.{Passed, keep, service, processorExternal, processorInternalIn, processorInternal, joining, batcherExternal, batcherInternal, isNamed, marked, markedState, started, stopped, stopwatchExternal, stopwatchInternal}
-use Rattle.rules.specs.Step.{World, Out, outAt, came, noted, becomes, due, externalAs, external, hand, turn, internalAs, internal, levels, taken, along, send, rootTurn, leastTimer, advance, allAfter, stepOn, oneStep}
+use Rattle.rules.specs.Step.{World, Happening, Out, outAt, came, noted, becomes, due, externalAs, external, park, hand, turn, internalAs, internal, levels, taken, along, send, rootTurn, leastTimer, advance, allAfter, stepOn, oneStep}
 use Rattle.rules.specs.Valid.{isValid, modelFits, guardedBy, processorExternalCall, processorInternalCall, batcherExternalCall, batcherInternalCall, stopwatchExternalCall, stopwatchInternalCall}
-use Rattle.rules.specs.Calls.{post, put, injectInput, withoutMessages, atClockZero, reset, resetMessages, resetGlobalTime, getMessages, getGlobalTime, statusOfFirst, getStatus, ended, Refused, stepN, stepUntil}
+use Rattle.rules.specs.Calls.{post, put, injectInput, withoutMessages, atClockZero, reset, resetMessages, resetGlobalTime, getMessages, getGlobalTime, statusOfFirst, getStatus, ended, Refused, fitting, stepN, stepUntil}
 use Rattle.rules.specs.Ends.{two-not, Ends, stops, goes, ends-if, ends-bind, ends-map, ends-refused, ends-each, ends-most, all-any}
 use Rattle.rules.specs.Decides.{Decides, tells, passes, either, fails, is-true, is-false, Any, here, _∈_, some-decides, at-most, below, same, itself, empty-decides, member-decides, named-decides, those-element, parentless-element, Judged, intake-exactly}
 
@@ -110,6 +110,13 @@ keep-exactly job held =
     exactly-given (keepLines held)
     (ends-if (ltb (length held) mostJobs) (λ _. goes tt) (λ t. stops (let n = tells (fails (below (length held) 64)) t in omega arith)))
     ((λ l. rw (is-false (below (length held) 64) (omega arith))) by tt)
+
+-- a list has room for so many: 8 and 13 are decided by this
+pub room-exactly : {A : Type 0} (most : ℕ) (r : Refusal) (xs : List A) → Refuses (atMost most r xs) ((r, most < length xs) ∷ [])
+room-exactly most r xs =
+    exactly-given ((r, most < length xs) ∷ [])
+    (ends-if (leb (length xs) most) (λ _. goes tt) (λ t. stops {r = r} (rw (is-true (same (number r) (number r)) refl) (let n = tells (fails (at-most (length xs) most)) t in omega arith))))
+    ((λ l. rw (is-false (at-most (length xs) most) (omega arith))) by tt)
 
 -- 9: "a service time is needed past the end of the list"; 10: "a service time read .. is no time"
 abbrev pub serviceLines : List Float → ℕ → Lines
@@ -432,6 +439,61 @@ module _ (services : List Float) (sim : Simulation) where
   unfolding stepOn
   step-overflow = (ends-refused step-only, λ (w, a, e, f, n). rw (e, f, is-false (itself (isTime (add binary64 (sim .clock) a))) n))
 
+-- ---- 8 and 13, where they are decided
+-- what comes after is done, so the refusals are those of o
+then-done : {A C : Type 0} (lines : Lines) (o : Outcome A) (f : A → C) → Refuses o lines → Refuses (o >>= λ a. done (f a)) lines
+then-done lines (refused x) f h r = (λ e. h r .0 (let z : x ≡ r = cc in ap refused z), λ g. let z : refused x ≡ refused r = h r .1 g in let y : x ≡ r = cc in ap refused y)
+then-done lines (done a) f h r = (λ e. absurd (let z : _≡_ {A = ℕ} 0 1 = cc in omega arith), λ g. absurd (let e = h r .1 g in let z : _≡_ {A = ℕ} 0 1 = cc in omega arith))
+
+-- so many stand there, and so many more come
+more-exactly : {A C : Type 0} (most : ℕ) (r : Refusal) (xs : List A) (f : C → A) (ys : List C) → Refuses (atMost most r (xs ++ map f ys)) ((r, most < length xs + length ys) ∷ [])
+more-exactly most r xs f ys =
+    subst (λ (n : ℕ). Refuses (atMost most r (xs ++ map f ys)) ((r, most < n) ∷ [])) (length-append xs (map f ys) ∙ ap (λ (n : ℕ). length xs + n) (length-map ys f)) (room-exactly most r (xs ++ map f ys))
+
+module _ (t : Table) (services : List Float) (i : ℕ) where
+  -- "the 257th active": one message out along all its connectors
+  pub send-exactly : (clock : Float) (m : Out) (sent : List Message) → Refuses (send t clock i m sent) ((NoMessageRoom, 256 < length sent + length (connected t (idAt t i) (m .port))) ∷ [])
+  send-exactly clock m sent = more-exactly 256 NoMessageRoom sent (along t clock i m) (connected t (idAt t i) (m .port))
+
+  module _ (j : ℕ) (m : Out) where
+    abbrev pub parkLines : World → Lines
+    parkLines w = (NoMessageRoom, 64 < length (asCoupled (stateAt (w .states) i)) + length (internals t (idAt t i) (idAt t j) (m .port))) ∷ []
+
+    -- "the 65th parked": one message out along all its internal couplings
+    pub park-exactly : (w : World) → Refuses (park t services i j m w) (parkLines w)
+    park-exactly w =
+        then-done (parkLines w) _ (λ parked. becomes i (ofCoupled parked) w)
+        (more-exactly 64 NoMessageRoom (asCoupled (stateAt (w .states) i)) (λ (to : Target). record { component = to .target; port = to .port; content = m .content }) (internals t (idAt t i) (idAt t j) (m .port)))
+
+    abbrev pub outLines : List Out → Lines
+    outLines out = (NoMessageRoom, 256 < length out + length (outputs t (idAt t i) (idAt t j) (m .port))) ∷ []
+
+    -- "or put out": the 257th out of this internal event, or the 65th parked
+    pub hand-exactly : (w : World) (out : List Out) → Refuses (hand t services i j m (w, out)) ((NoMessageRoom, given (parkLines w) NoMessageRoom ⊎ given (outLines out) NoMessageRoom) ∷ [])
+    hand-exactly w out =
+        exactly-given lines (after (given lines) (parkLines w) next (park-exactly w) (inl by tt) (λ w′. only (given lines) (outLines out) (next w′) (outs w′) (inr by tt)))
+        ((λ h. elim h [ inl p ↦ rw (park-exactly w NoMessageRoom .1 p) | inr q ↦ full (park t services i j m w) (park-exactly w) q ]) by tt)
+      where
+        lines : Lines
+        lines = (NoMessageRoom, given (parkLines w) NoMessageRoom ⊎ given (outLines out) NoMessageRoom) ∷ []
+
+        next : World → Outcome (World × List Out)
+        next w′ = atMost mostOut NoMessageRoom (out ++ map (λ port. outAt port (m .content)) (outputs t (idAt t i) (idAt t j) (m .port))) >>= λ out′. done (w′, out′)
+
+        outs : (w′ : World) → Refuses (next w′) (outLines out)
+        outs w′ = then-done (outLines out) _ (λ out′. (w′, out′)) (more-exactly 256 NoMessageRoom out (λ port. outAt port (m .content)) (outputs t (idAt t i) (idAt t j) (m .port)))
+
+        full : (o : Outcome World) → Refuses o (parkLines w) → given (outLines out) NoMessageRoom → (o >>= next) ≡ refused NoMessageRoom
+        full (refused r) h q = each-line (λ r. _≡_ {A = Outcome (World × List Out)} (refused r) (refused NoMessageRoom)) (parkLines w) ((λ _. refl) by tt) r (h r .0 refl)
+        full (done w′) h q = outs w′ NoMessageRoom .1 q
+
+-- 13: "a step's rows must be collected, .. and they don't fit"
+pub fitting-exactly : (room : ℕ) (next : Simulation) (log : List Happening) → Refuses (fitting room (next, log)) ((NoOutRoom, room < length (next .active)) ∷ [])
+fitting-exactly room next log =
+    exactly-given ((NoOutRoom, room < length (next .active)) ∷ [])
+    (ends-if (leb (length (next .active)) room) (λ _. goes tt) (λ u. stops (let n = tells (fails (at-most (length (next .active)) room)) u in omega arith)))
+    ((λ l. rw (is-false (at-most (length (next .active)) room) (omega arith))) by tt)
+
 -- ---- the calls
 -- "20 comes first, in every call.": given when the test fails; the other lines, where it passes
 abbrev pub passing : Bool → Lines → Lines
@@ -555,13 +617,7 @@ module _ (sim : Simulation) where
 
   pub messages-exactly : (room : ℕ) → Refuses (getMessages room sim) (guardLines (isValid sim) (messagesLines room))
   unfolding getMessages
-  messages-exactly room =
-      guarded-exactly (isValid sim) (messagesLines room)
-      (exactly-given (messagesLines room) (ends-if (leb (length (sim .active)) room) (λ _. goes tt) (λ u. stops (let n = tells (fails fit) u in omega arith))) ((λ l. rw (is-false fit (omega arith))) by tt))
-      (λ h. h)
-    where
-      fit : Decides (leb (length (sim .active)) room) (length (sim .active) ≤ room)
-      fit = at-most (length (sim .active)) room
+  messages-exactly room = guarded-exactly (isValid sim) (messagesLines room) (room-exactly room NoOutRoom (sim .active)) (λ h. h)
 
   -- 4: "status of an id not among the models without parent"
   abbrev pub statusLines : ℕ → Lines

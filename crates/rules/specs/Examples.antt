@@ -144,7 +144,3 @@ ending Done = 0
 ending Reached = 0
 ending Spent = 0
 ending (Refused r) = number r
-
--- how one step of a table with these messages ends
-unfoldable pub stepped : Posted → List Message → List Float → ℕ
-stepped p ms services = ending (step services 256 (start p ms) .end)

@@ -12,12 +12,13 @@ use lib.Ieee.{Float, le}
 use Rattle.times.specs.Time.{never, isTimer, leastOf}
 use Rattle.times.specs.Laws as law
 use Rattle.rules.specs.Base.{if_then_else_, those, from}
-use Rattle.rules.specs.Table.{Kind, processor, batcher, stopwatch, coupled, Row, Table, noRow, rowAt, idAt, kindAt, isParent, isParentless, parentless, components}
+use Rattle.rules.specs.Table.{Kind, coupled, Row, Table, noRow, rowAt, idAt, kindAt, isParent, isParentless, parentless, components}
 use Rattle.rules.specs.Intake.{passesIntake}
 use Rattle.rules.specs.Simulation.{State, ofProcessor, ofBatcher, ofStopwatch, ofCoupled, stateAt}
 use Rattle.rules.specs.Step.{least, timerIn, timer, levels, leastTimer}
-use Rattle.rules.specs.Valid.{processorRules, batcherRules, stopwatchRules, stateFits, statesFit}
-use Rattle.rules.specs.Ends.{if-both, if-both-i, All, nil, _&_, all-any, parts}
+use Rattle.rules.specs.Valid.{stateFits, statesFit}
+use Rattle.rules.specs.Ends.{if-both, if-both-i, All, nil, _&_, all-any}
+use Rattle.rules.specs.Decides.{tells, passes, timer-decides, StateKeeps, of-processor, of-batcher, of-stopwatch, of-coupled, state-decides}
 use Rattle.rules.specs.Depth.{Fine, fine, by-parent}
 
 -- ---- states that fit their rows. Past the last row both the kind and the state are a Coupled's, with nothing parked.
@@ -59,23 +60,14 @@ ownTimer s = timerIn s never
 abbrev pub Below : Float → List State → Type 0
 Below a states = (i : ℕ) → T (le a (ownTimer (stateAt states i)))
 
-first-of : {b : Bool} {bs : List Bool} → All T (b ∷ bs) → T b
-first-of (h & p) = h
-
 pub fits-timer : (k : Kind) (s : State) → T (stateFits k s) → T (isTimer (ownTimer s))
-fits-timer (processor p) (ofProcessor s) h = first-of (parts (processorRules p s) h)
-fits-timer (batcher b) (ofProcessor s) h = absurd h
-fits-timer (stopwatch w) (ofProcessor s) h = absurd h
-fits-timer coupled (ofProcessor s) h = absurd h
-fits-timer (processor p) (ofBatcher s) h = absurd h
-fits-timer (batcher b) (ofBatcher s) h = first-of (parts (batcherRules s) h)
-fits-timer (stopwatch w) (ofBatcher s) h = absurd h
-fits-timer coupled (ofBatcher s) h = absurd h
-fits-timer (processor p) (ofStopwatch s) h = absurd h
-fits-timer (batcher b) (ofStopwatch s) h = absurd h
-fits-timer (stopwatch w) (ofStopwatch s) h = first-of (parts (stopwatchRules s) h)
-fits-timer coupled (ofStopwatch s) h = absurd h
-fits-timer k (ofCoupled parked) h = law.never-timer
+fits-timer k s h = go (tells (state-decides k s) h)
+  where
+    go : {k : Kind} {s : State} → StateKeeps k s → T (isTimer (ownTimer s))
+    go (of-processor {s = s} h) = passes (timer-decides (s .timer)) (h .timer)
+    go (of-batcher {s = s} h) = passes (timer-decides (s .timer)) (h .timer)
+    go (of-stopwatch {s = s} h) = passes (timer-decides (s .timer)) (h .timer)
+    go (of-coupled h) = law.never-timer
 
 timerIn-either : (P : Float → Type 0) (s : State) (inside : Float) → P (ownTimer s) → P inside → P (timerIn s inside)
 timerIn-either P (ofProcessor s) inside h k = h

@@ -1,6 +1,6 @@
 -- A refused call changes nothing, and a run that is refused keeps the steps before: the first theorems over the calls. Assumes nothing.
 use Prim.Native.Nat.{ℕ, zero, suc, _-_, _≤_}
-use mathlib.Core.Path.{_≡_, refl, ap, _∙_}
+use mathlib.Core.Path.{_≡_, refl, sym, ap, _∙_}
 use mathlib.Core.Bool.{Bool, true, false, not}
 use mathlib.Core.List.{List, []}
 use native.Mathlib.Omega.{arith}
@@ -35,6 +35,23 @@ spent-not r e = let z : _≡_ {A = ℕ} 0 1 = cc in omega arith
 abbrev pub endingAs : End → Ran → Ran
 endingAs end r = record { end = end; sim = r .sim; steps = r .steps; rows = r .rows; log = r .log }
 
+-- ---- a run that is refused at once left all as it was
+onward-nothing : (sim : Simulation) (o : Outcome (Simulation × List Happening)) (rest : Simulation → Ran) (r : Refusal) → onward sim o rest .end ≡ Refused r → onward sim o rest .steps ≡ 0 → onward sim o rest ≡ ended (Refused r) sim
+onward-nothing sim (refused x) rest r e q = ap (λ (end : End). ended end sim) e
+onward-nothing sim (done a) rest r e q = absurd (omega arith)
+
+look-nothing : (until : Float) (room : ℕ) (sim : Simulation) (o : Outcome (Simulation × List Happening)) (rest : Simulation → Ran) (r : Refusal)
+    → look until room sim o rest .end ≡ Refused r → look until room sim o rest .steps ≡ 0 → look until room sim o rest ≡ ended (Refused r) sim
+look-nothing until room sim (refused x) rest r e q = ap (λ (end : End). ended end sim) e
+look-nothing until room sim (done a) rest r e q = go (lt (a .0 .clock) until) e q
+  where
+    run : Bool → Ran
+    run below = if below then onward sim (fitting room a) rest else thenRan [] (a .1) (ended Reached (a .0))
+
+    go : (below : Bool) → run below .end ≡ Refused r → run below .steps ≡ 0 → run below ≡ ended (Refused r) sim
+    go true e q = onward-nothing sim (fitting room a) rest r e q
+    go false e q = absurd (reached-not r e)
+
 -- ---- a run that is refused keeps the steps before: it is the run of just its completed steps, but for its end
 -- one step and the rest: `rest` is the run asked for, `fewer` that of so many steps less
 cut-onward : (sim : Simulation) (r : Refusal) (finish : End) (o : Outcome (Simulation × List Happening)) (rest : Simulation → Ran) (fewer : ℕ → Simulation → Ran)
@@ -43,11 +60,6 @@ cut-onward : (sim : Simulation) (r : Refusal) (finish : End) (o : Outcome (Simul
 cut-onward sim r finish (refused x) rest fewer ih e k q = absurd (omega arith)
 cut-onward sim r finish (done (next, log)) rest fewer ih e k q =
     ap (thenRan (next .active) log) (ap (λ (n : ℕ). fewer n next) (let z : k ≡ rest next .steps = omega arith in z) ∙ ih next e)
-
--- a run of no steps
-none-onward : (sim : Simulation) (o : Outcome (Simulation × List Happening)) (rest : Simulation → Ran) (finish : End) → onward sim o rest .steps ≡ 0 → ended finish sim ≡ endingAs finish (onward sim o rest)
-none-onward sim (refused x) rest finish q = refl
-none-onward sim (done (next, log)) rest finish q = absurd (omega arith)
 
 pub steps-before : (services : List Float) (room n : ℕ) (sim : Simulation) (r : Refusal) → steps services room n sim .end ≡ Refused r
     → steps services room (steps services room n sim .steps) sim ≡ endingAs Done (steps services room n sim)
@@ -66,7 +78,7 @@ steps-before services room (suc n) sim r e = go (λ left next h. steps-before se
 
     go : ((left : ℕ) (next : Simulation) → steps services left n next .end ≡ Refused r → steps services left (steps services left n next .steps) next ≡ endingAs Done (steps services left n next))
         → (k : ℕ) → run .steps ≡ k → steps services room k sim ≡ endingAs Done run
-    go ih zero q = none-onward sim o (rest n) Done q
+    go ih zero q = sym (ap (endingAs Done) (onward-nothing sim o (rest n) r e q))
     go ih (suc k) q = cut-onward sim r Done o (rest n) rest (λ next h. ih (room - length (next .active)) next h) e k q
 
 -- the same of `step_until`: its end would have been Spent
@@ -83,18 +95,6 @@ cut-look until room sim r (done a) rest fewer ih e k q = go (lt (a .0 .clock) un
     go true e q = cut-onward sim r Spent (fitting room a) rest fewer ih e k q
     go false e q = absurd (reached-not r e)
 
-none-look : (until : Float) (room : ℕ) (sim : Simulation) (r : Refusal) (o : Outcome (Simulation × List Happening)) (rest : Simulation → Ran) → look until room sim o rest .end ≡ Refused r → look until room sim o rest .steps ≡ 0
-    → ended Spent sim ≡ endingAs Spent (look until room sim o rest)
-none-look until room sim r (refused x) rest e q = refl
-none-look until room sim r (done a) rest e q = go (lt (a .0 .clock) until) e q
-  where
-    run : Bool → Ran
-    run below = if below then onward sim (fitting room a) rest else thenRan [] (a .1) (ended Reached (a .0))
-
-    go : (below : Bool) → run below .end ≡ Refused r → run below .steps ≡ 0 → ended Spent sim ≡ endingAs Spent (run below)
-    go true e q = none-onward sim (fitting room a) rest Spent q
-    go false e q = absurd (reached-not r e)
-
 pub stepsUntil-before : (services : List Float) (until : Float) (room n : ℕ) (sim : Simulation) (r : Refusal) → stepsUntil services until room n sim .end ≡ Refused r
     → stepsUntil services until room (stepsUntil services until room n sim .steps) sim ≡ endingAs Spent (stepsUntil services until room n sim)
 unfolding stepsUntil
@@ -109,7 +109,7 @@ stepsUntil-before services until room (suc n) sim r e = go (λ left next h. step
 
     go : ((left : ℕ) (next : Simulation) → stepsUntil services until left n next .end ≡ Refused r → stepsUntil services until left (stepsUntil services until left n next .steps) next ≡ endingAs Spent (stepsUntil services until left n next))
         → (k : ℕ) → run .steps ≡ k → stepsUntil services until room k sim ≡ endingAs Spent run
-    go ih zero q = none-look until room sim r (oneStep services sim) (rest n) e q
+    go ih zero q = sym (ap (endingAs Spent) (look-nothing until room sim (oneStep services sim) (rest n) r e q))
     go ih (suc k) q = cut-look until room sim r (oneStep services sim) (rest n) rest (λ next h. ih (room - length (next .active)) next h) e k q
 
 -- ---- the calls. "`step_n` and `step_until` stop at the refused step: they keep earlier steps and rows, and return number, steps and rows."
@@ -144,10 +144,6 @@ changed-nothing : (sim : Simulation) (o : Outcome Simulation) (r : Refusal) → 
 changed-nothing sim (refused x) r e = ap (λ (end : End). ended end sim) e
 changed-nothing sim (done next) r e = absurd (done-not r e)
 
-onward-nothing : (sim : Simulation) (o : Outcome (Simulation × List Happening)) (rest : Simulation → Ran) (r : Refusal) → onward sim o rest .end ≡ Refused r → onward sim o rest .steps ≡ 0 → onward sim o rest ≡ ended (Refused r) sim
-onward-nothing sim (refused x) rest r e q = ap (λ (end : End). ended end sim) e
-onward-nothing sim (done a) rest r e q = absurd (omega arith)
-
 stepN-nothing : (services : List Float) (room count : ℕ) (sim : Simulation) (r : Refusal) → stepN services room count sim .end ≡ Refused r → stepN services room count sim .steps ≡ 0
     → stepN services room count sim ≡ ended (Refused r) sim
 unfolding stepN steps
@@ -169,20 +165,9 @@ stepUntil-nothing services until room allowance sim r e q = go (isValid sim) (is
     run : Bool → Bool → ℕ → Ran
     run valid time n = if not valid then ended (Refused BadState) sim else if not time then ended (Refused BadTime) sim else stepsUntil services until room n sim
 
-    looked : (o : Outcome (Simulation × List Happening)) (rest : Simulation → Ran) → look until room sim o rest .end ≡ Refused r → look until room sim o rest .steps ≡ 0 → look until room sim o rest ≡ ended (Refused r) sim
-    looked (refused x) rest e q = ap (λ (end : End). ended end sim) e
-    looked (done a) rest e q = below (lt (a .0 .clock) until) e q
-      where
-        under : Bool → Ran
-        under b = if b then onward sim (fitting room a) rest else thenRan [] (a .1) (ended Reached (a .0))
-
-        below : (b : Bool) → under b .end ≡ Refused r → under b .steps ≡ 0 → under b ≡ ended (Refused r) sim
-        below true e q = onward-nothing sim (fitting room a) rest r e q
-        below false e q = absurd (reached-not r e)
-
     go : (valid time : Bool) (n : ℕ) → run valid time n .end ≡ Refused r → run valid time n .steps ≡ 0 → run valid time n ≡ ended (Refused r) sim
     go true true zero e q = absurd (spent-not r e)
-    go true true (suc n) e q = looked (oneStep services sim) (λ next. stepsUntil services until (room - length (next .active)) n next) e q
+    go true true (suc n) e q = look-nothing until room sim (oneStep services sim) (λ next. stepsUntil services until (room - length (next .active)) n next) r e q
     go true false n e q = ap (λ (end : End). ended end sim) e
     go false time n e q = ap (λ (end : End). ended end sim) e
 

@@ -1,7 +1,7 @@
 -- What every event and every step keeps: the rules of refusal 20, and any K that the single events keep (`Closed`), with the refusals among a set B. Assumes nothing.
 use Prim.Native.Nat.{ℕ, zero, suc, _≤_}
 use mathlib.Core.Path.{_≡_, refl, sym, _∙_, subst}
-use mathlib.Core.Logic.{inl, inr}
+use mathlib.Core.Logic.{_⊎_, inl, inr}
 use mathlib.Core.Bool.{Bool, true, false, not, _&&_}
 use mathlib.Core.List.{List, [], _∷_, _++_, map}
 use mathlib.Core.Option.{Option, none, some}
@@ -9,7 +9,7 @@ use native.Mathlib.Omega.{arith}
 use lib.ListN.{length, set, length-set, length-map, List·getD-map}
 use lib.Dec.{T, eqb, le→leb}
 use lib.Ieee.{Float, binary64, sub, add, le}
-use Rattle.times.specs.Time.{isNever, isTime, isTimer}
+use Rattle.times.specs.Time.{never, isNever, isTime, isTimer}
 use Rattle.times.specs.Laws as law
 use Rattle.rules.specs.declared.Refusal.{Refusal}
 use Rattle.rules.specs.declared.Refusal.the-variants.{InvalidModelState, NoMessageRoom, ClockOverflow, Idle}
@@ -24,8 +24,9 @@ use Rattle.rules.specs.Intake.{kindRules, connectorRules, couplingRules}
 use Rattle.rules.specs.Simulation.{BatcherState, StopwatchState, Parked, State, ofProcessor, ofBatcher, ofStopwatch, ofCoupled, Simulation, stateAt, asProcessor, asBatcher, asStopwatch, asCoupled}
 use Rattle.rules.specs.Models.{Fate, Kept, Passed, batcherExternal, batcherInternal, stopwatchInternal}
 use Rattle.rules.specs.Step.{Out, outAt, Happening, came, went, World, noted, becomes, moved, levels, due, External, Internal, externalAs, external, park, hand, turn, internalAs, internal, taken, leastTimer, advance, after, allAfter, later, along, send, rootTurn, stepOn}
-use Rattle.rules.specs.Valid.{processorRules, batcherRules, stopwatchRules, parkedRules, coupledRules, kindNumber, stateNumber, stateRules, stateFits, messageRules}
+use Rattle.rules.specs.Valid.{batcherRules, stopwatchRules, parkedRules, coupledRules, kindNumber, stateNumber, stateRules, stateFits, messageRules}
 use Rattle.rules.specs.Ends.{if-both, no-some, All, nil, _&_, all-any, all-append, all-map, all-those, all-chosen, every-all, all-every, parts, whole-of, Ends, stops, goes, ends-if, ends-bind, ends-map, ends-both, ends-each, ends-most}
+use Rattle.rules.specs.Decides.{tells, passes, timer-decides, processor-decides, batcher-decides, stopwatch-decides, coupled-state-decides, StateKeeps, of-processor, of-batcher, of-stopwatch, of-coupled, state-decides}
 use Rattle.rules.specs.Depth.{Fine, Deep, parentless-deep}
 use Rattle.rules.specs.Least.{Fitted, ownTimer, Below, fits-timer, least-is-timer, least-below}
 use Rattle.rules.specs.Kept.{Other, Contents, processor-external, processor-internal, batcher-external, batcher-internal, stopwatch-external, stopwatch-internal}
@@ -134,23 +135,23 @@ parked-fit : (parked : List Parked) → All T (coupledRules parked) → All Park
 parked-fit parked (a & b & nil) = every-all (λ m. hold (parkedRules m)) parked b
 
 -- ---- every timer less an advance that is at most each
-swap-first : {b c : Bool} {bs : List Bool} → (T b → T c) → All T (b ∷ bs) → All T (c ∷ bs)
-swap-first f (h & p) = f h & p
-
 after-fits : (k : Kind) (s : State) (a : Float) → T (isTime a) → T (le a (ownTimer s)) → T (stateFits k s) → T (stateFits k (after a s))
-after-fits (processor p) (ofProcessor s) a u l h = whole-of (swap-first {c = isTimer (sub binary64 (s .timer) a)} (λ t. law.after-timer (s .timer) a t u l) (parts (processorRules p s) h))
-after-fits (batcher b) (ofProcessor s) a u l h = absurd h
-after-fits (stopwatch w) (ofProcessor s) a u l h = absurd h
-after-fits coupled (ofProcessor s) a u l h = absurd h
-after-fits (processor p) (ofBatcher s) a u l h = absurd h
-after-fits (batcher b) (ofBatcher s) a u l h = whole-of (swap-first {c = isTimer (sub binary64 (s .timer) a)} (λ t. law.after-timer (s .timer) a t u l) (parts (batcherRules s) h))
-after-fits (stopwatch w) (ofBatcher s) a u l h = absurd h
-after-fits coupled (ofBatcher s) a u l h = absurd h
-after-fits (processor p) (ofStopwatch s) a u l h = absurd h
-after-fits (batcher b) (ofStopwatch s) a u l h = absurd h
-after-fits (stopwatch w) (ofStopwatch s) a u l h = whole-of (swap-first {c = isTimer (sub binary64 (s .timer) a)} (λ t. law.after-timer (s .timer) a t u l) (parts (stopwatchRules s) h))
-after-fits coupled (ofStopwatch s) a u l h = absurd h
-after-fits k (ofCoupled parked) a u l h = h
+after-fits k s a u l h = go (tells (state-decides k s) h) l
+  where
+    less : (x : Float) → T (isTime x) ⊎ (x ≡ never) → T (le a x) → T (isTime (sub binary64 x a)) ⊎ (sub binary64 x a ≡ never)
+    less x t l = tells (timer-decides (sub binary64 x a)) (law.after-timer x a (passes (timer-decides x) t) u l)
+
+    go : {k : Kind} {s : State} → StateKeeps k s → T (le a (ownTimer s)) → T (stateFits k (after a s))
+    go (of-processor {p = p} {s = s} h) l =
+        passes (processor-decides p (record { phase = s .phase; timer = sub binary64 (s .timer) a; queue = s .queue }))
+        (record { timer = less (s .timer) (h .timer) l; length-most = h .length-most; contents = h .contents; capacity = h .capacity; working-on = h .working-on })
+    go (of-batcher {s = s} h) l =
+        passes (batcher-decides (record { phase = s .phase; timer = sub binary64 (s .timer) a; jobs = s .jobs }))
+        (record { timer = less (s .timer) (h .timer) l; length-most = h .length-most; contents = h .contents })
+    go (of-stopwatch {s = s} h) l =
+        passes (stopwatch-decides (record { phase = s .phase; timer = sub binary64 (s .timer) a; jobs = s .jobs }))
+        (record { timer = less (s .timer) (h .timer) l; length-most = h .length-most; marks = h .marks; names-differ = h .names-differ })
+    go (of-coupled {parked = parked} h) l = passes (coupled-state-decides parked) h
 
 pub after-at : (a : Float) (states : List State) (i : ℕ) → stateAt (map (after a) states) i ≡ after a (stateAt states i)
 after-at a states i = List·getD-map (after a) states i (ofCoupled [])
