@@ -1,0 +1,3 @@
+-- What the contracts of `batcher` cite, and that one answer alone meets each.
+pub mod Batching
+pub mod Unique
