@@ -1,0 +1,9 @@
+-- What the contracts of `table` cite, and the laws of it.
+pub mod Readers
+pub mod Verdicts
+pub mod Rows
+pub mod Judging
+pub mod Earlier
+pub mod Agrees
+pub mod Judged
+pub mod Passed
