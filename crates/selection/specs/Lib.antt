@@ -1,0 +1,4 @@
+-- What the contracts of `selection` cite, and the laws of it.
+pub mod Selecting
+pub mod SelectingLaws
+pub mod Selected
