@@ -1,6 +1,6 @@
 -- The tests of the words agree with the rules of intake: each row's, and so the first bad row of each part, and the verdict. Assumes nothing.
 use Prim.Native.Nat.{ℕ, zero, suc}
-use mathlib.Core.Path.{_≡_, refl, sym, _∙_, subst}
+use mathlib.Core.Path.{_≡_, refl, sym, ap, _∙_, subst}
 use mathlib.Core.Bool.{Bool, true, false, not, _&&_, true≢false}
 use mathlib.Core.List.{List, [], _∷_, _++_, map}
 use mathlib.Core.Option.{Option, none, some}
@@ -23,7 +23,7 @@ use Rattle.words.specs.declared.Found.the-variants.{At, Nothing}
 use Rattle.words.specs.Search.{firstFrom}
 use Rattle.table.specs.declared.Kind.the-variants.{Broken}
 use Rattle.table.specs.Readers.{rowOf, named, kindOf}
-use Rattle.table.specs.Judging.{processorOf, batcherOf, stopwatchOf, kindOr, rowIn, earlierIn, isKind, cellsFit, rowFits, parentJoins, rowJoins, rowKeeps, connectorKeeps, ownerFits, couplingKeeps}
+use Rattle.table.specs.Judging.{processorOf, batcherOf, stopwatchOf, inputIn, outputIn, innerIn, kindOr, rowIn, earlierIn, isKind, cellsFit, rowFits, parentJoins, rowJoins, rowKeeps, connectorKeeps, ownerFits, couplingKeeps}
 
 -- a row that is whole, and keeps these rules
 abbrev pub keeps : {A : Type 0} → (A → List Bool) → Option A → Bool
@@ -84,6 +84,19 @@ last-fails : (bs : List Bool) → hold (bs ++ (false ∷ [])) ≡ false
 last-fails [] = refl
 last-fails (true ∷ bs) = last-fails bs
 last-fails (false ∷ bs) = refl
+
+-- one list after the other
+joined : (xs ys : List Bool) → (if hold xs then hold ys else false) ≡ hold (xs ++ ys)
+joined [] ys = refl
+joined (true ∷ xs) ys = joined xs ys
+joined (false ∷ xs) ys = refl
+
+-- a test behind others
+moved : (b : Bool) (xs ys : List Bool) → hold (b ∷ (xs ++ ys)) ≡ hold (xs ++ (b ∷ ys))
+moved b [] ys = refl
+moved b (true ∷ xs) ys = moved b xs ys
+moved true (false ∷ xs) ys = refl
+moved false (false ∷ xs) ys = refl
 
 -- the ports that a kind uses, and those that it does not
 module _ (p q r s : Bool) (rest : List Bool) where
@@ -206,41 +219,28 @@ connector-keeps-is row =
     keeps-where connectorRules (eqb (length row) connectorWidth) (record { source = cell row 0; sourcePort = cell row 1; target = cell row 2; targetPort = cell row 3 })
     ∙ rw (one (cellsFit row 0 4))
 
--- the unused id is tested first, or with the others
-module _ (more : List Bool) where
-  abbrev inOrder : (w o a b c d : Bool) → Bool
-  inOrder w o a b c d = hold (w ∷ hold (o ∷ []) ∷ hold (a ∷ b ∷ c ∷ d ∷ []) ∷ hold more ∷ [])
+-- the id that a coupling does not use is tested first, or in its place
+module _ (w o a b c d : Bool) (more : List Bool) where
+  abbrev inOrder : Bool
+  inOrder = hold (w ∷ hold (o ∷ []) ∷ hold (a ∷ b ∷ c ∷ d ∷ []) ∷ hold more ∷ [])
 
-  first-unused : (w o a b c d : Bool) → (if hold (w ∷ a ∷ []) then hold (o ∷ b ∷ c ∷ d ∷ more) else false) ≡ inOrder w o a b c d
-  first-unused false o a b c d = refl
-  first-unused true true true true true true = sym (one (hold more))
-  first-unused true true true true true false = refl
-  first-unused true true true true false d = refl
-  first-unused true true true false c d = refl
-  first-unused true true false b c d = refl
-  first-unused true false true b c d = refl
-  first-unused true false false b c d = refl
+  abbrev guard : Bool → Bool → Bool
+  guard test rest = if test then rest else false
 
-  third-unused : (w o a b c d : Bool) → (if hold (w ∷ c ∷ []) then hold (o ∷ a ∷ b ∷ d ∷ more) else false) ≡ inOrder w o a b c d
-  third-unused false o a b c d = refl
-  third-unused true true true true true true = sym (one (hold more))
-  third-unused true true true true true false = refl
-  third-unused true true true true false d = refl
-  third-unused true true true false true d = refl
-  third-unused true true true false false d = refl
-  third-unused true true false b true d = refl
-  third-unused true true false b false d = refl
-  third-unused true false a b true d = refl
-  third-unused true false a b false d = refl
+  flat : hold (w ∷ o ∷ a ∷ b ∷ c ∷ d ∷ more) ≡ inOrder
+  flat = sym
+      (ap (λ (t : Bool). guard w (guard (hold (o ∷ [])) (guard (hold (a ∷ b ∷ c ∷ d ∷ [])) t))) (one (hold more))
+      ∙ ap (λ (t : Bool). guard w (guard (hold (o ∷ [])) t)) (joined (a ∷ b ∷ c ∷ d ∷ []) more)
+      ∙ ap (guard w) (joined (o ∷ []) (a ∷ b ∷ c ∷ d ∷ more)))
 
-  none-unused : (w o a b c d : Bool) → (if hold (w ∷ true ∷ []) then hold (o ∷ a ∷ b ∷ c ∷ d ∷ more) else false) ≡ inOrder w o a b c d
-  none-unused false o a b c d = refl
-  none-unused true false a b c d = refl
-  none-unused true true true true true true = sym (one (hold more))
-  none-unused true true true true true false = refl
-  none-unused true true true true false d = refl
-  none-unused true true true false c d = refl
-  none-unused true true false b c d = refl
+  first-unused : guard (hold (w ∷ a ∷ [])) (hold (o ∷ b ∷ c ∷ d ∷ more)) ≡ inOrder
+  first-unused = joined (w ∷ a ∷ []) (o ∷ b ∷ c ∷ d ∷ more) ∙ ap (guard w) (moved a (o ∷ []) (b ∷ c ∷ d ∷ more)) ∙ flat
+
+  third-unused : guard (hold (w ∷ c ∷ [])) (hold (o ∷ a ∷ b ∷ d ∷ more)) ≡ inOrder
+  third-unused = joined (w ∷ c ∷ []) (o ∷ a ∷ b ∷ d ∷ more) ∙ ap (guard w) (moved c (o ∷ a ∷ b ∷ []) (d ∷ more)) ∙ flat
+
+  none-unused : guard (hold (w ∷ true ∷ [])) (hold (o ∷ a ∷ b ∷ c ∷ d ∷ more)) ≡ inOrder
+  none-unused = joined (w ∷ true ∷ []) (o ∷ a ∷ b ∷ c ∷ d ∷ more) ∙ flat
 
 module _ (rows : List Table.Row) (row : List ℕ) where
   abbrev wide : Bool
@@ -252,30 +252,21 @@ module _ (rows : List Table.Row) (row : List ℕ) where
   abbrev held : Bool
   held = isCoupledId rows (cell row 0)
 
-  abbrev input : Table.Coupling
-  input = Table.externalInput (cell row 0) (cell row 3) (cell row 4) (cell row 5)
-
-  abbrev output : Table.Coupling
-  output = Table.externalOutput (cell row 0) (cell row 2) (cell row 3) (cell row 5)
-
-  abbrev inner : Table.Coupling
-  inner = Table.internalCoupling (cell row 0) (cell row 2) (cell row 3) (cell row 4) (cell row 5)
-
   abbrev fields : List Bool
   fields = wide ∷ hold (port 0 ∷ []) ∷ hold (port 2 ∷ port 3 ∷ port 4 ∷ port 5 ∷ []) ∷ []
 
   -- by the word of its kind
-  by-kind : (n : ℕ) → keeps (couplingRules rows) (wholeCoupling row (if eqb n 1 then some (input, cell row 2) else if eqb n 2 then some (output, cell row 4) else if eqb n 3 then some (inner, 0) else none))
+  by-kind : (n : ℕ) → keeps (couplingRules rows) (wholeCoupling row (if eqb n 1 then some (inputIn row, cell row 2) else if eqb n 2 then some (outputIn row, cell row 4) else if eqb n 3 then some (innerIn row, 0) else none))
       ≡ hold (fields ++ (ownerFits rows (cell row 0) n (cell row 4) ∷ []))
   unfolding ownerFits
   by-kind zero = sym (last-fails fields)
   by-kind (suc zero) =
-      keeps-where (couplingRules rows) (hold (wide ∷ port 2 ∷ [])) input
-      ∙ first-unused (held ∷ isComponentOf rows (cell row 0) (cell row 4) ∷ []) wide (port 0) (port 2) (port 3) (port 4) (port 5)
+      keeps-where (couplingRules rows) (hold (wide ∷ port 2 ∷ [])) (inputIn row)
+      ∙ first-unused wide (port 0) (port 2) (port 3) (port 4) (port 5) (held ∷ isComponentOf rows (cell row 0) (cell row 4) ∷ [])
   by-kind (suc (suc zero)) =
-      keeps-where (couplingRules rows) (hold (wide ∷ port 4 ∷ [])) output ∙ third-unused (held ∷ []) wide (port 0) (port 2) (port 3) (port 4) (port 5)
+      keeps-where (couplingRules rows) (hold (wide ∷ port 4 ∷ [])) (outputIn row) ∙ third-unused wide (port 0) (port 2) (port 3) (port 4) (port 5) (held ∷ [])
   by-kind (suc (suc (suc zero))) =
-      keeps-where (couplingRules rows) (hold (wide ∷ true ∷ [])) inner ∙ none-unused (held ∷ []) wide (port 0) (port 2) (port 3) (port 4) (port 5)
+      keeps-where (couplingRules rows) (hold (wide ∷ true ∷ [])) (innerIn row) ∙ none-unused wide (port 0) (port 2) (port 3) (port 4) (port 5) (held ∷ [])
   by-kind (suc (suc (suc (suc n)))) =
       let m : ℕ = suc (suc (suc (suc n))) in
       rw (ne-eqb m 1 (λ e. omega arith), ne-eqb m 2 (λ e. omega arith), ne-eqb m 3 (λ e. omega arith), le-leb 1 m (omega arith), lt-leb m 3 (omega arith)) (sym (last-fails fields))

@@ -34,12 +34,12 @@ batcherOf input output size time = Table.batcher (record { input = input; output
 abbrev pub stopwatchOf : ℕ → ℕ → ℕ → ℕ → Metric → Table.Kind
 stopwatchOf start stop ask output metric = Table.stopwatch (record { start = start; stop = stop; ask = ask; output = output; metric = metric })
 
-unfoldable pub stopwatchAt : List ℕ → Option Table.Kind
-stopwatchAt row = stopwatchIn row (metricIn row)
-
 -- word 8, if the field is given
 abbrev pub settingIn : ℕ → ℕ → List ℕ → ℕ
 settingIn field omitted row = if isGiven field row then cell row 8 else omitted
+
+unfoldable pub stopwatchAt : List ℕ → Option Table.Kind
+stopwatchAt row = stopwatchIn row (metricIn row)
 
 abbrev pub isKind : Kind → Bool
 isKind (Processor p) = true
@@ -51,6 +51,16 @@ isKind Broken = false
 abbrev pub optionOf : Parent → Option ℕ
 optionOf Nobody = none
 optionOf (Of id) = some id
+
+-- ---- a coupling of each kind, as its words say
+abbrev pub inputIn : List ℕ → Table.Coupling
+inputIn row = Table.externalInput (cell row 0) (cell row 3) (cell row 4) (cell row 5)
+
+abbrev pub outputIn : List ℕ → Table.Coupling
+outputIn row = Table.externalOutput (cell row 0) (cell row 2) (cell row 3) (cell row 5)
+
+abbrev pub innerIn : List ℕ → Table.Coupling
+innerIn row = Table.internalCoupling (cell row 0) (cell row 2) (cell row 3) (cell row 4) (cell row 5)
 
 -- ---- a row as its words say, whole or not. A kind that is none of the four is no Coupled
 abbrev pub kindOr : Option Table.Kind → Table.Kind

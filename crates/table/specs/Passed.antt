@@ -12,7 +12,7 @@ use lib.Dec.{T, leb, eqb, leb→le, eqb→eq}
 use lib.Ieee.Bits.{is-true}
 use Rattle.rules.specs.Sizes.{isId}
 use Rattle.rules.specs.Base.{if_then_else_, hold, from}
-use Rattle.rules.specs.Table.{Kind, Row, Connector, Coupling, externalInput, externalOutput, internalCoupling, Table, noRow, rowAt, idAt, kindAt, isCoupled}
+use Rattle.rules.specs.Table.{Kind, Row, Connector, Coupling, Table, noRow, rowAt, idAt, kindAt, isCoupled}
 use Rattle.rules.specs.Intake.{kindRules, depthOf, intake, passed, couplingRules}
 use Rattle.rules.specs.Ends.{no-some, if-both, All, nil, _&_, parts, whole-of}
 use Rattle.rules.specs.Decides.{Judged, intake-exactly, rows-first, connectors-first, couplings-first}
@@ -24,7 +24,7 @@ use Rattle.words.specs.declared.Found.the-variants.{At, Nothing}
 use Rattle.table.specs.declared.Part.the-variants.{Models, Connectors, Couplings}
 use Rattle.table.specs.Readers.{rowOf, idIn, named, kindOf, depthIn}
 use Rattle.table.specs.Rows.{countOf, rows-whole}
-use Rattle.table.specs.Judging.{kindOr, rowIn, earlierIn, cellsFit, connectorKeeps, couplingKeeps, ownerFits, allIn, keepsIn, firstBadIn}
+use Rattle.table.specs.Judging.{inputIn, outputIn, innerIn, kindOr, rowIn, earlierIn, cellsFit, connectorKeeps, couplingKeeps, ownerFits, allIn, keepsIn, firstBadIn}
 use Rattle.table.specs.Earlier.{coupled-is, none-deep, depth-same}
 use Rattle.table.specs.Agrees.{keeps, placeOf, coupling-keeps-is}
 use Rattle.table.specs.Judged.{rows-agree, connectors-agree, couplings-agree, all-kept, lines-whole, row-read, rows-length, rows-are-read}
@@ -38,10 +38,7 @@ connectorAt connectors k = connectorOf (rowOf connectorWidth connectors k)
 
 -- 1 external input, 2 external output, 3 internal
 abbrev pub couplingOf : List ℕ → Coupling
-couplingOf row =
-    if eqb (cell row 1) 1 then externalInput (cell row 0) (cell row 3) (cell row 4) (cell row 5)
-    else if eqb (cell row 1) 2 then externalOutput (cell row 0) (cell row 2) (cell row 3) (cell row 5)
-    else internalCoupling (cell row 0) (cell row 2) (cell row 3) (cell row 4) (cell row 5)
+couplingOf row = if eqb (cell row 1) 1 then inputIn row else if eqb (cell row 1) 2 then outputIn row else innerIn row
 
 abbrev pub couplingAt : List ℕ → ℕ → Coupling
 couplingAt couplings k = couplingOf (rowOf couplingWidth couplings k)
@@ -108,8 +105,7 @@ coupling-is rows row e = is (parts (eqb (length row) couplingWidth ∷ cellsFit 
       long = eqb→eq (length row) couplingWidth w;
       kind-from = k .0;
       kind-to = k .1;
-      reads = go (externalInput (cell row 0) (cell row 3) (cell row 4) (cell row 5)) (externalOutput (cell row 0) (cell row 2) (cell row 3) (cell row 5))
-          (internalCoupling (cell row 0) (cell row 2) (cell row 3) (cell row 4) (cell row 5)) (cell row 2) (cell row 4) 0 (eqb (cell row 1) 1) (eqb (cell row 1) 2) (eqb (cell row 1) 3) (coupling-keeps-is rows row ∙ e);
+      reads = go (inputIn row) (outputIn row) (innerIn row) (cell row 2) (cell row 4) 0 (eqb (cell row 1) 1) (eqb (cell row 1) 2) (eqb (cell row 1) 3) (coupling-keeps-is rows row ∙ e);
     }
 
 -- ---- rows, each after those before it
