@@ -35,6 +35,26 @@ fn bad_marks() {
     marked(b"a stop at 2^60", 1.0, values::LAST);
 }
 
+// The same in the second job.
+fn bad_second() {
+    let mut words = [0u64; 192];
+    put(&mut words, 0, 7, 1.0, 2.0);
+    put(&mut words, 1, 8, -0.0, 2.0);
+    both(b"the second job's start at -0.0", 2, &mut words);
+    put(&mut words, 1, 8, 1.0, -0.0);
+    both(b"the second job's stop at -0.0", 2, &mut words);
+    put(&mut words, 1, 0x1_0000_0000, 1.0, 2.0);
+    both(b"the second name is 2^32", 2, &mut words);
+}
+
+// And in the last of 64.
+fn bad_last() {
+    let mut words = [0u64; 192];
+    watch::fill(&mut words);
+    put(&mut words, 63, 163, 1.0, -0.0);
+    both(b"64 names, the last's stop at -0.0", 64, &mut words);
+}
+
 // A NaN's other bits are no mark either.
 fn odd_nan() {
     let mut words = [0u64; 192];
@@ -232,6 +252,8 @@ fn rules_alone() {
 
 pub fn run_states() {
     bad_marks();
+    bad_second();
+    bad_last();
     odd_nan();
     bad_names();
     equal_names();

@@ -122,6 +122,38 @@ fn odd_finds() {
     find(b"a cell at 2^64 - 1", &rows, 2, 0, 9, key(MOST, 1, 0, 1));
 }
 
+// One of the four cells is outside of the row, at the next row's first word. All ask for a 1.
+fn outside(name: &[u8], first: usize, second: usize, third: usize, fourth: usize) {
+    let rows = [1, 2, 1, 3];
+    let key = Key {
+        first: Cell {
+            at: first,
+            value: 1,
+        },
+        second: Cell {
+            at: second,
+            value: 1,
+        },
+        third: Cell {
+            at: third,
+            value: 1,
+        },
+        fourth: Cell {
+            at: fourth,
+            value: 1,
+        },
+    };
+    find(name, &rows, 2, 0, 9, key);
+}
+
+fn cells() {
+    outside(b"no cell outside of the row", 0, 0, 0, 0);
+    outside(b"the first cell outside of the row", 2, 0, 0, 0);
+    outside(b"the second cell outside of the row", 0, 2, 0, 0);
+    outside(b"the third cell outside of the row", 0, 0, 2, 0);
+    outside(b"the fourth cell outside of the row", 0, 0, 0, 2);
+}
+
 fn word(name: &[u8], words: &[u64], place: usize) {
     say::heading(b"word at", name);
     say::number(words::word_at(words, place));
@@ -143,5 +175,6 @@ pub fn run() {
     far_moves();
     finds();
     odd_finds();
+    cells();
     reads();
 }

@@ -31,6 +31,11 @@ fn owners() {
     coupling(b"an external output's owner is a batcher", 12, 2);
 }
 
+fn wide_owners() {
+    coupling(b"an internal coupling's owner is 65536 + 10", 6, 65546);
+    coupling(b"an external output's owner is 65536 + 10", 12, 65546);
+}
+
 fn kinds() {
     coupling(b"coupling kind 0", 1, 0);
     coupling(b"coupling kind 2", 1, 2);
@@ -102,6 +107,19 @@ fn components() {
     nested(b"an external input from Coupled 3 to 5 in 4", 3, 5);
 }
 
+// The second of two external input couplings.
+fn nested_second(name: &[u8], owner: u64, target: u64) {
+    let words = base::nested();
+    let couplings = [1, 1, 0, 0, 2, 0, owner, 1, 0, 0, target, 0];
+    say::heading(name);
+    judge_nested(&words, &couplings);
+}
+
+fn second_components() {
+    nested_second(b"a second external input, from 3 to 4 in it", 3, 4);
+    nested_second(b"a second external input, from 3 to 5 in 4", 3, 5);
+}
+
 // A word of each slice is 65536; past the slice's end none is.
 fn faults(name: &[u8], model: usize, link: usize, inner: usize) {
     let mut models = base::models();
@@ -132,8 +150,10 @@ pub fn run_fields() {
 
 pub fn run_names() {
     owners();
+    wide_owners();
     targets();
     strangers();
     components();
+    second_components();
     several();
 }

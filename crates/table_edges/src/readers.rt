@@ -135,6 +135,42 @@ fn broken() {
     one(b"an id of 65536", [65536, 4, 0, 0, 0, 0, 0, 0, 0, 0]);
 }
 
+// 65536 would be 0 in 16 bits.
+fn broken_ports() {
+    one(
+        b"a processor's port out is 65536",
+        [1, 1, 0, 0, 1, 0, 0, 65536, 0, 0],
+    );
+    one(
+        b"a batcher's port in is 65536",
+        [1, 2, 0, 0, 65536, 0, 0, 2, 5, 0],
+    );
+    one(
+        b"a batcher's port out is 65536",
+        [1, 2, 0, 0, 1, 0, 0, 65536, 5, 0],
+    );
+    one(
+        b"a stopwatch's start is 65536",
+        [1, 3, 0, 0, 65536, 2, 3, 4, 0, 0],
+    );
+    one(
+        b"a stopwatch's stop is 65536",
+        [1, 3, 0, 0, 1, 65536, 3, 4, 0, 0],
+    );
+    one(
+        b"a stopwatch's metric port is 65536",
+        [1, 3, 0, 0, 1, 2, 65536, 4, 0, 0],
+    );
+    one(
+        b"a stopwatch's port out is 65536",
+        [1, 3, 0, 0, 1, 2, 3, 65536, 0, 0],
+    );
+    one(
+        b"ports to 65535",
+        [1, 3, 0, 0, 65532, 65533, 65534, 65535, 0, 0],
+    );
+}
+
 fn short() {
     let none = [0u64; 0];
     let one = [7];
@@ -148,5 +184,6 @@ pub fn run() {
     tables();
     omitted();
     broken();
+    broken_ports();
     short();
 }

@@ -4,6 +4,8 @@ use crate::base::judge;
 use crate::base::judge_models;
 use crate::say;
 
+const NOWHERE: usize = 0xFFFF_FFFF_FFFF_FFFF;
+
 // Rows of `width` words: an id, which goes up by `step` from row to row, and a kind.
 fn fill(words: &mut [u64], width: u8, first: u8, step: u8, kind: u64) {
     let wide = width as usize;
@@ -42,9 +44,20 @@ fn one_row() {
 
 // Processors 0, 1, 2 and so on.
 fn filled_models(name: &[u8], words: &mut [u64]) {
+    filled_but(name, words, NOWHERE, 0);
+}
+
+// The same with a word changed.
+fn filled_but(name: &[u8], words: &mut [u64], at: usize, value: u64) {
     fill(words, 10, 0, 1, 1);
+    words::push(words, at, value);
     say::heading(name);
     judge_models(words);
+}
+
+fn last_row() {
+    let mut words = [0u64; 640];
+    filled_but(b"64 rows, the last has the first's id", &mut words, 630, 0);
 }
 
 fn rows_64() {
@@ -84,13 +97,39 @@ fn many_connectors() {
     some_connectors(b"256 connectors and one word", &word);
 }
 
+fn last_connector() {
+    let mut words = [0u64; 1024];
+    words[1023] = 65536;
+    some_connectors(b"256 connectors, the last's target port is 65536", &words);
+}
+
 // External output couplings of one Coupled.
 fn filled_couplings(name: &[u8], words: &mut [u64]) {
+    couplings_but(name, words, NOWHERE, 0);
+}
+
+fn couplings_but(name: &[u8], words: &mut [u64], at: usize, value: u64) {
     let row = [10, 4, 0, 0, 0, 0, 0, 0, 0, 0];
     let none = [0u64; 0];
     fill(words, 6, 10, 0, 2);
+    words::push(words, at, value);
     say::heading(name);
     judge(&row, &none, words);
+}
+
+fn some_coupling() {
+    let mut words = [0u64; 1536];
+    couplings_but(
+        b"256 couplings, the owner of 7 is 65536 + 10",
+        &mut words,
+        42,
+        65546,
+    );
+}
+
+fn last_coupling() {
+    let mut words = [0u64; 1536];
+    couplings_but(b"256 couplings, the last's kind is 4", &mut words, 1531, 4);
 }
 
 fn couplings_256() {
@@ -185,6 +224,7 @@ pub fn run_models() {
     rows_64_cut();
     rows_65();
     rows_65_cut();
+    last_row();
 }
 
 pub fn run_links() {
@@ -193,6 +233,9 @@ pub fn run_links() {
     couplings_256_cut();
     couplings_257();
     couplings_257_cut();
+    last_connector();
+    some_coupling();
+    last_coupling();
     too_large_first();
     cut_models();
     cut_links();
