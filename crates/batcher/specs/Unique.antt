@@ -1,7 +1,7 @@
 -- Each contract of `batcher` is met by one answer alone. Assumes nothing.
 use Prim.Native.Nat.{ℕ}
-use mathlib.Core.Path.{_≡_, sym, ap, _∙_}
-use mathlib.Core.List.{List}
+use mathlib.Core.Path.{_≡_, refl, sym, ap, _∙_}
+use mathlib.Core.List.{List, []}
 use lib.ListN.{length, drop}
 use Rattle.rules.specs.Base.{Outcome}
 use Rattle.rules.specs.Simulation as Simulation
@@ -34,3 +34,7 @@ module _ (s : BatcherState) (queue : List ℕ) where
       let f : a .next .phase ≡ b .next .phase = ap (λ (x : Simulation.BatcherState × Outcome (List ℕ)). x .0 .phase) e in
       let t : a .next .timer ≡ b .next .timer = ap (λ (x : Simulation.BatcherState × Outcome (List ℕ)). x .0 .timer) e in
       λ i. record { next = record { phase = f i; timer = t i; held = h i }; answer = n i }
+
+-- ---- a new state is the rules' fresh one
+pub fresh-is : Batching.batcherOf Batching.fresh [] ≡ Simulation.freshBatcher
+fresh-is = refl

@@ -1,7 +1,7 @@
 -- Each contract of `processor` is met by one answer alone. Assumes nothing.
 use Prim.Native.Nat.{ℕ}
-use mathlib.Core.Path.{_≡_, sym, ap, _∙_}
-use mathlib.Core.List.{List}
+use mathlib.Core.Path.{_≡_, refl, sym, ap, _∙_}
+use mathlib.Core.List.{List, []}
 use lib.ListN.{length, drop}
 use Rattle.rules.specs.Base.{Outcome}
 use Rattle.rules.specs.Simulation as Simulation
@@ -36,3 +36,7 @@ module _ (s : ProcessorState) (place : ℕ) (queue : List ℕ) where
       let t : a .next .timer ≡ b .next .timer = ap (λ (x : (Simulation.ProcessorState × ℕ) × Outcome (List ℕ)). x .0 .0 .timer) e in
       let l : a .place ≡ b .place = ap (λ (x : (Simulation.ProcessorState × ℕ) × Outcome (List ℕ)). x .0 .1) e in
       λ i. record { next = record { phase = f i; timer = t i; held = h i }; place = l i; answer = n i }
+
+-- ---- a new state is the rules' fresh one
+pub fresh-is : Processing.processorOf Processing.fresh [] ≡ Simulation.freshProcessor
+fresh-is = refl

@@ -20,7 +20,7 @@ use Rattle.table.specs.Passed.{models-long, connectors-long, couplings-long, id
 use Rattle.words.specs.declared.Found.the-variants.{At, Nothing}
 use Rattle.words.specs.Search.{firstFrom}
 use Rattle.words.specs.SearchLaws.{first-at, first-nothing}
-use Rattle.selection.specs.Selecting.{rowsIn, connectorsIn, couplingsIn, connects, isSome, chosenOf, couplingRead, isInput, isOutput, isInternal, isComponent, isFree, hasId}
+use Rattle.selection.specs.Selecting.{rowsIn, connectorsIn, couplingsIn, connects, isSome, chosenOf, couplingRead, isInput, isOutput, isInternal, isComponent, isFree, hasId, targetIn}
 use Rattle.table.specs.Passed.{connectorAt}
 use Rattle.selection.specs.SelectingLaws.{kinds, couplingBy}
 
@@ -169,3 +169,10 @@ module _ (models connectors couplings : List ℕ) (t : Table) (h : intake (lent 
   -- which row has an id
   pub id-is : (id k : ℕ) → eqb (idAt t k) id ≡ hasId models id k
   id-is id k = ap (λ (n : ℕ). eqb n id) (id-read models connectors couplings t h k)
+
+-- ---- what the readers answer is where the rules' connector or coupling leads
+pub connector-leads : (connectors : List ℕ) (k : ℕ) → (targetIn 4 2 connectors k .id ≡ connectorAt connectors k .target) × (targetIn 4 2 connectors k .port ≡ connectorAt connectors k .targetPort)
+connector-leads connectors k = (refl, refl)
+
+pub coupling-leads : (couplings : List ℕ) (k : ℕ) → (targetIn 6 4 couplings k .id ≡ leadsTo couplings k .target) × (targetIn 6 4 couplings k .port ≡ leadsTo couplings k .port)
+coupling-leads couplings k = (refl, refl)

@@ -32,7 +32,7 @@ use Rattle.stopwatch.specs.declared.StopwatchTaken.{StopwatchTaken}
 use Rattle.stopwatch.specs.declared.StopwatchGone.{StopwatchGone}
 use Rattle.stopwatch.specs.declared.Named.the-variants as named
 use Rattle.events.specs.Meaning.{handedBack, fateOf}
-use Rattle.stopwatch.specs.Watching.{stopwatchOf, fitsIn, markedAs, marking, externalIn, quiet, fetchedAs, fetching, internalFrom, internalIn, externalCallIn, internalCallIn, namesOf, Took, Went}
+use Rattle.stopwatch.specs.Watching.{stopwatchOf, fresh, fitsIn, markedAs, marking, externalIn, quiet, fetchedAs, fetching, internalFrom, internalIn, externalCallIn, internalCallIn, namesOf, Took, Went}
 
 -- ---- what 20 asks
 module _ (row : Stopwatch) (s : StopwatchState) (words : List ℕ) where
@@ -177,3 +177,7 @@ went row s words = go (fitsIn row s words) refl
 
 pub went-as : (row : Stopwatch) (s : StopwatchState) (words : List ℕ) (r : StopwatchGone) → r ≡ internalCallIn row s words → Went row s words r
 went-as row s words r h = subst (λ (x : StopwatchGone). Went row s words x) (sym h) (went row s words)
+
+-- ---- a new state is the rules' fresh one, whatever stands in the words
+pub fresh-is : (words : List ℕ) → stopwatchOf fresh words ≡ Simulation.freshStopwatch
+fresh-is words = refl

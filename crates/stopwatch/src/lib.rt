@@ -95,7 +95,7 @@ impl StopwatchState {
         }
     }
 
-    // A message comes. Where the words are cut short, it is 20.
+    // A message comes. Where a mark is to be set and the words are cut short, it is 20; a request for the metric does not look at them.
     pub fn external_rule(
         self,
         row: Stopwatch,
