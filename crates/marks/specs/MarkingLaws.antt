@@ -6,7 +6,7 @@ use native.Mathlib.Nat.{eq-or-lt-of-le}
 use borrow.Author.Tests.{lt-ltb, le-ltb, ltb-true, ltb-false, eqb-true, eqb-false}
 use mathlib.Core.Logic.{_⊎_, inl, inr, ⊎-elim}
 use mathlib.Core.Bool.{Bool, true, false}
-use mathlib.Core.List.{List, [], _∷_, _++_, map}
+use mathlib.Core.List.{List, [], _∷_, _++_, map, map-map}
 use mathlib.Core.Option.{none, some}
 use lib.ListN.{length, getD, set, take, drop, length-map, length-set}
 use lib.Seq.{drop-cons, drop-set-lt, getD-take, getD-set-same, getD-set-other}
@@ -25,6 +25,7 @@ use Rattle.rules.specs.Simulation.{Marks}
 use Rattle.rules.specs.Models.{isNamed, marked, started, stopped}
 use Rattle.rules.specs.Valid.{marksRules, differ, names}
 use Rattle.rules.specs.Decides.{Differ, differ-decides, tells, passes}
+use Rattle.words.specs.Lists.{length-lines, map-from, map-last}
 use Rattle.words.specs.Search.{firstFrom}
 use Rattle.words.specs.SearchLaws.{isFound, first-at, first-some}
 use Rattle.words.specs.declared.Found.{Found}
@@ -66,27 +67,9 @@ every-map : {A B : Type 0} (test : B → Bool) (f : A → B) (xs : List A) → e
 every-map test f [] = refl
 every-map test f (x ∷ xs) = ap (λ b. if test (f x) then b else false) (every-map test f xs)
 
-map-from : {A : Type 0} (f g : ℕ → A) (k n : ℕ) → ((j : ℕ) → k ≤ j → j < k + n → f j ≡ g j) → map f (from k n) ≡ map g (from k n)
-map-from f g k zero e = refl
-map-from f g k (suc n) e = rw (e k (omega arith) (omega arith), map-from f g (suc k) n (λ j a b. e j (omega arith) (omega arith)))
-
-map-map : {A B C : Type 0} (g : B → C) (f : A → B) (xs : List A) → map g (map f xs) ≡ map (λ x. g (f x)) xs
-map-map g f [] = refl
-map-map g f (x ∷ xs) = ap (λ ys. g (f x) ∷ ys) (map-map g f xs)
-
-map-last : {A : Type 0} (f : ℕ → A) (k n : ℕ) → map f (from k (suc n)) ≡ map f (from k n) ++ f (k + n) ∷ []
-map-last f k zero = let e : k ≡ k + 0 = omega arith in ap (λ j. f j ∷ []) e
-map-last f k (suc n) =
-    let e : suc k + n ≡ k + suc n = omega arith in
-    ap (λ ys. f k ∷ ys) (map-last f (suc k) n ∙ ap (λ j. map f (from (suc k) n) ++ f j ∷ []) e)
-
-length-from : (k n : ℕ) → length (from k n) ≡ n
-length-from k zero = refl
-length-from k (suc n) = ap suc (length-from (suc k) n)
-
 -- ---- the jobs
 pub jobs-length : (held : ℕ) (words : List ℕ) → length (jobsIn held words) ≡ held
-jobs-length held words = length-map (from 0 held) (jobAt words) ∙ length-from 0 held
+jobs-length held words = length-lines (jobAt words) held
 
 -- the names are the first words, as a queue's jobs are (`words`: queueIn)
 pub names-in : (held : ℕ) (words : List ℕ) → held ≤ length words → names (jobsIn held words) ≡ take held words

@@ -81,7 +81,7 @@ timerIn-own a (ofBatcher s) inside t h = h
 timerIn-own a (ofStopwatch s) inside t h = h
 timerIn-own a (ofCoupled s) inside t h = law.timers-never a t
 
-timerIn-coupled : (s : State) (inside : Float) → T (stateFits coupled s) → timerIn s inside ≡ inside
+pub timerIn-coupled : (s : State) (inside : Float) → T (stateFits coupled s) → timerIn s inside ≡ inside
 timerIn-coupled (ofProcessor s) inside h = absurd h
 timerIn-coupled (ofBatcher s) inside h = absurd h
 timerIn-coupled (ofStopwatch s) inside h = absurd h
@@ -89,7 +89,7 @@ timerIn-coupled (ofCoupled s) inside h = refl
 
 -- ---- the least of a list: a timer, at most each, and the greatest such
 module _ {A : Type 0} (f : A → Float) where
-  least-timer : {xs : List A} → All (λ x. T (isTimer (f x))) xs → T (isTimer (least (map f xs)))
+  pub least-timer : {xs : List A} → All (λ x. T (isTimer (f x))) xs → T (isTimer (least (map f xs)))
   least-timer nil = law.never-timer
   least-timer (_&_ {x = x} {xs = xs} h p) = law.least-timer (f x) (least (map f xs)) h (least-timer p)
 
@@ -140,12 +140,12 @@ module _ (t : Table) (ok : Fine t) (states : List State) (g : Fitted t states) w
   owned : (i : ℕ) → T (isTimer (ownTimer (stateAt states i)))
   owned i = fits-timer (kindAt t i) (stateAt states i) (g .fit i)
 
-  at-timer : (d i : ℕ) → T (isTimer (at d i))
+  pub at-timer : (d i : ℕ) → T (isTimer (at d i))
   unfolding timer
   at-timer zero i = law.never-timer
   at-timer (suc d) i = timerIn-either (λ x. T (isTimer x)) (stateAt states i) (inside d i) (owned i) (least-timer (at d) (all-any (components t (idAt t i)) (at-timer d)))
 
-  inside-timer : (d i : ℕ) → T (isTimer (inside d i))
+  pub inside-timer : (d i : ℕ) → T (isTimer (inside d i))
   inside-timer d i = least-timer (at d) (all-any (components t (idAt t i)) (at-timer d))
 
   pub least-is-timer : T (isTimer (leastTimer t states))

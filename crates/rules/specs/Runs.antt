@@ -260,7 +260,7 @@ batcher-not-twenty b job s =
     join batching.Batching = goes tt
     join batching.Release = stops six-not-twenty
 
-any-closed : (t : Table) → Closed t NotTwenty (λ _. Unit {0})
+pub any-closed : (t : Table) → Closed t NotTwenty (λ _. Unit {0})
 any-closed t = record {
   other = other-not-twenty;
   six = λ i p e c. six-not-twenty;

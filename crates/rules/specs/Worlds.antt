@@ -75,10 +75,10 @@ is-batcher b (ofStopwatch x) h = absurd h
 is-batcher b (ofCoupled x) h = absurd h
 
 -- what is put out has its widths
-abbrev OutFits : Out → Type 0
+abbrev pub OutFits : Out → Type 0
 OutFits m = T (isPort (m .port)) × T (isContent (m .content))
 
-outs-fit : (port : ℕ) {jobs : List ℕ} → T (isPort port) → Contents jobs → All OutFits (map (outAt port) jobs)
+pub outs-fit : (port : ℕ) {jobs : List ℕ} → T (isPort port) → Contents jobs → All OutFits (map (outAt port) jobs)
 outs-fit port s ws = all-map (outAt port) ws (λ x h. (s, h))
 
 processor-output : (p : Processor) → All T (kindRules (processor p)) → T (isPort (p .output))
@@ -119,7 +119,7 @@ output-fits rows owner source port (externalOutput o s sp tp) to h e =
     go (a & b & c & d & y) = d
 output-fits rows owner source port (internalCoupling o s sp target tp) to h e = absurd (no-some e)
 
-abbrev ParkedFits : Parked → Type 0
+abbrev pub ParkedFits : Parked → Type 0
 ParkedFits m = T (hold (parkedRules m))
 
 parked-content : (m : Parked) → All T (parkedRules m) → T (isContent (m .content))
@@ -131,7 +131,7 @@ MessageFits m = T (hold (messageRules m))
 message-content : (m : Message) → All T (messageRules m) → T (isContent (m .content))
 message-content m (a & b & c & d & e & f & nil) = f
 
-parked-fit : (parked : List Parked) → All T (coupledRules parked) → All ParkedFits parked
+pub parked-fit : (parked : List Parked) → All T (coupledRules parked) → All ParkedFits parked
 parked-fit parked (a & b & nil) = every-all (λ m. hold (parkedRules m)) parked b
 
 -- ---- every timer less an advance that is at most each
@@ -156,7 +156,7 @@ after-fits k s a u l h = go (tells (state-decides k s) h) l
 pub after-at : (a : Float) (states : List State) (i : ℕ) → stateAt (map (after a) states) i ≡ after a (stateAt states i)
 after-at a states i = List·getD-map (after a) states i (ofCoupled [])
 
-fitted-after : {t : Table} (a : Float) (states : List State) → Fitted t states → T (isTime a) → Below a states → Fitted t (map (after a) states)
+pub fitted-after : {t : Table} (a : Float) (states : List State) → Fitted t states → T (isTime a) → Below a states → Fitted t (map (after a) states)
 fitted-after {t} a states g u l = record {
   same = length-map states (after a) ∙ g .same;
   fit = λ i. subst (λ (z : State). T (stateFits (kindAt t i) z)) (sym (after-at a states i)) (after-fits (kindAt t i) (stateAt states i) a u (l i) (g .fit i));
@@ -166,22 +166,22 @@ fitted-after {t} a states g u l = record {
 time-or : (x : Float) → T (isTimer x) → T (not (isNever x)) → T (isTime x)
 time-or x t n = elim (law.timer-split x t) [ inl u ↦ u | inr e ↦ absurd (subst (λ (z : Float). T (not (isNever z))) e n) ]
 
-advance-ends : {B : Refusal → Type 0} (t : Table) → Fine t → (active : List Message) (states : List State) → B Idle → Fitted t states → Ends B (λ a. T (isTime a) × Below a states) (advance t active states)
+pub advance-ends : {B : Refusal → Type 0} (t : Table) → Fine t → (active : List Message) (states : List State) → B Idle → Fitted t states → Ends B (λ a. T (isTime a) × Below a states) (advance t active states)
 advance-ends t ok (m ∷ ms) states b g = goes (law.instant-time, λ i. law.timers-instant (ownTimer (stateAt states i)) (fits-timer (kindAt t i) (stateAt states i) (g .fit i)))
 advance-ends t ok [] states b g = ends-if (isNever (leastTimer t states)) (λ _. stops b) (λ n. goes (time-or (leastTimer t states) (least-is-timer t ok states g) n, least-below t ok states g))
 
-later-ends : {B : Refusal → Type 0} (clock a : Float) → B ClockOverflow → Ends B (λ c. T (isTime c)) (later clock a)
+pub later-ends : {B : Refusal → Type 0} (clock a : Float) → B ClockOverflow → Ends B (λ c. T (isTime c)) (later clock a)
 later-ends clock a b = ends-if (isTime (add binary64 clock a)) (λ t. goes t) (λ _. stops b)
 
-abbrev Queued : List Message → Type 0
+abbrev pub Queued : List Message → Type 0
 Queued sent = All MessageFits sent × (length sent ≤ mostActive)
 
 module _ (t : Table) (ok : Fine t) (services : List Float) (short : T (isWord (length services))) (B : Refusal → Type 0) (K : World → Type 0) (closed : Closed t B K) where
-  abbrev Kept-in : World → Type 0
+  abbrev pub Kept-in : World → Type 0
   Kept-in w = Good t w × K w
 
   -- at each row for which `depth` levels do
-  abbrev ExtKeeps : ℕ → External t services → Type 0
+  abbrev pub ExtKeeps : ℕ → External t services → Type 0
   ExtKeeps depth ext = (i port content : ℕ) (w : World) → Deep t depth i → T (isContent content) → Kept-in w → Ends B Kept-in (ext i port content w)
 
   not-batcher : (i : ℕ) (k : Kind) → kindAt t i ≡ k → NotBatcher k → NotBatcher (kindAt t i)
@@ -234,14 +234,14 @@ module _ (t : Table) (ok : Fine t) (services : List Float) (short : T (isWord (l
     external-keeps (suc depth) i port content w d u h = externalAs-keeps (kindAt t i) depth (external t services depth clock) (external-keeps depth) i port content w refl d u h
 
   -- ---- internal events
-  abbrev Gone : World × List Out → Type 0
+  abbrev pub Gone : World × List Out → Type 0
   Gone r = Kept-in (r .0) × All OutFits (r .1)
 
-  abbrev IntKeeps : ℕ → Internal t services → Type 0
+  abbrev pub IntKeeps : ℕ → Internal t services → Type 0
   IntKeeps depth int = (i : ℕ) (w : World) → Deep t depth i → Kept-in w → Ends B Gone (int i w)
 
   -- a message of the component j is parked in the Coupled i
-  park-keeps : (i j : ℕ) (m : Out) (w : World) → kindAt t i ≡ coupled → OutFits m → Kept-in w → Ends B Kept-in (park t services i j m w)
+  pub park-keeps : (i j : ℕ) (m : Out) (w : World) → kindAt t i ≡ coupled → OutFits m → Kept-in w → Ends B Kept-in (park t services i j m w)
   park-keeps i j m w e f h =
       ends-bind _ (ends-most mostParked NoMessageRoom (held ++ map parked-as (internals t (idAt t i) (idAt t j) (m .port))) (closed .other NoMessageRoom tt))
       (λ more k. goes (put-keeps i coupled (ofCoupled more) (w .place) w e tt
@@ -259,7 +259,7 @@ module _ (t : Table) (ok : Fine t) (services : List Float) (short : T (isWord (l
           (all-map parked-as (all-chosen (internalOf (idAt t i) (idAt t j) (m .port)) (ok .inner) (internal-fits (t .rows) (idAt t i) (idAt t j) (m .port)))
           (λ to v. whole-of {bs = parkedRules (parked-as to)} (v .0 & v .1 & f .1 & nil)))
 
-  hand-keeps : (i j : ℕ) (m : Out) (r : World × List Out) → kindAt t i ≡ coupled → OutFits m → Gone r → Ends B Gone (hand t services i j m r)
+  pub hand-keeps : (i j : ℕ) (m : Out) (r : World × List Out) → kindAt t i ≡ coupled → OutFits m → Gone r → Ends B Gone (hand t services i j m r)
   hand-keeps i j m r e f h =
       ends-bind _ (park-keeps i j m (r .0) e f (h .0))
       (λ w k. ends-bind _ (ends-most mostOut NoMessageRoom (r .1 ++ map (λ port. outAt port (m .content)) (outputs t (idAt t i) (idAt t j) (m .port))) (closed .other NoMessageRoom tt))
@@ -269,7 +269,7 @@ module _ (t : Table) (ok : Fine t) (services : List Float) (short : T (isWord (l
             (all-append (h .1) (all-map (λ port. outAt port (m .content)) (all-chosen (outputOf (idAt t i) (idAt t j) (m .port)) (ok .inner) (output-fits (t .rows) (idAt t i) (idAt t j) (m .port))) (λ port s. (s, f .1)))),
       )))
 
-  turn-keeps : (depth i j : ℕ) (int : Internal t services) (r : World × List Out) → IntKeeps depth int → Deep t depth j → kindAt t i ≡ coupled → Gone r → Ends B Gone (turn t services depth int i j r)
+  pub turn-keeps : (depth i j : ℕ) (int : Internal t services) (r : World × List Out) → IntKeeps depth int → Deep t depth j → kindAt t i ≡ coupled → Gone r → Ends B Gone (turn t services depth int i j r)
   turn-keeps depth i j int r rec d e h =
       ends-if (due t depth (r .0 .states) j)
       (λ _. ends-bind _ (rec j (r .0) d (h .0)) (λ x g. ends-each {P = OutFits} (hand t services i j) (x .0, r .1) (g .1) (λ m y f k. hand-keeps i j m y e f k) (g .0, h .1)))
@@ -327,16 +327,16 @@ module _ (t : Table) (ok : Fine t) (services : List Float) (short : T (isWord (l
         internalAs-keeps (kindAt t i) depth (external t services depth clock) (internal t services depth clock) (external-keeps clock c depth) (internal-keeps depth) i w refl d h
 
     -- ---- the step
-    abbrev Sent : World × List Message → Type 0
+    abbrev pub Sent : World × List Message → Type 0
     Sent r = Kept-in (r .0) × Queued (r .1)
 
-    taken-keeps : (active : List Message) (w : World) → All MessageFits active → Kept-in w → Ends B Kept-in (taken t services clock active w)
+    pub taken-keeps : (active : List Message) (w : World) → All MessageFits active → Kept-in w → Ends B Kept-in (taken t services clock active w)
     taken-keeps active w ms h =
         ends-each {P = Deep t levels} _ w (parentless-deep t ok)
         (λ i w₁ d h₁. ends-each {P = MessageFits} _ w₁ (all-those (λ (m : Message). eqb (m .«target_id») (idAt t i)) ms (λ m q _. q))
         (λ m w₂ q h₂. external-keeps clock c levels i (m .«target_port») (m .content) w₂ d (message-content m (parts (messageRules m) q)) h₂) h₁) h
 
-    send-keeps : (i : ℕ) (m : Out) (sent : List Message) → OutFits m → Queued sent → Ends B Queued (send t clock i m sent)
+    pub send-keeps : (i : ℕ) (m : Out) (sent : List Message) → OutFits m → Queued sent → Ends B Queued (send t clock i m sent)
     send-keeps i m sent f h =
         ends-map (ends-most mostActive NoMessageRoom (sent ++ map (along t clock i m) (connected t (idAt t i) (m .port))) (closed .other NoMessageRoom tt)) (λ r b. b)
         (λ more k. (
@@ -348,7 +348,7 @@ module _ (t : Table) (ok : Fine t) (services : List Float) (short : T (isWord (l
         go : (x : Connector) → All T (connectorRules x) → MessageFits (along t clock i m x)
         go x (p & q & r & s & nil) = whole-of {bs = messageRules (along t clock i m x)} (ok .ids i & f .0 & r & s & c & f .1 & nil)
 
-    rootTurn-keeps : (i : ℕ) (r : World × List Message) → Deep t levels i → Sent r → Ends B Sent (rootTurn t services clock i r)
+    pub rootTurn-keeps : (i : ℕ) (r : World × List Message) → Deep t levels i → Sent r → Ends B Sent (rootTurn t services clock i r)
     rootTurn-keeps i r d h =
         ends-if (due t levels (r .0 .states) i)
         (λ _. ends-bind _ (internal-keeps levels i (r .0) d (h .0))

@@ -53,7 +53,7 @@ each-map visit f [] s = refl
 each-map visit f (k ∷ ks) s = λ i. visit (f k) s >>= (λ s. each-map visit f ks s i)
 
 -- ---- lists of places
-those-map : {A : Type 0} (test : A → Bool) (f : ℕ → A) (ks : List ℕ) → those test (map f ks) ≡ map f (those (λ k. test (f k)) ks)
+pub those-map : {A : Type 0} (test : A → Bool) (f : ℕ → A) (ks : List ℕ) → those test (map f ks) ≡ map f (those (λ k. test (f k)) ks)
 those-map test f [] = refl
 those-map test f (k ∷ ks) = by (test (f k)) (those-map test f ks)
   where

@@ -18,9 +18,11 @@ use Rattle.rules.specs.Intake as Intake
 use Rattle.rules.specs.Intake.{Posted, sizeRules, rowRules, connectorRules, couplingRules, firstBadRow, firstBad, whole}
 use Rattle.rules.specs.Layout.{cell, rowsOf, modelWidth, connectorWidth, couplingWidth, modelRow, connectorRow, couplingRow, kindIn, lent}
 use Rattle.rules.specs.Decides.{whole-some}
+use Rattle.words.specs.Lists.{map-from}
 use Rattle.words.specs.declared.Found.{Found}
 use Rattle.words.specs.declared.Found.the-variants.{At, Nothing}
 use Rattle.words.specs.Search.{firstFrom}
+use Rattle.words.specs.SearchLaws.{found-not}
 use Rattle.table.specs.declared.Part.{Part}
 use Rattle.table.specs.declared.Part.the-variants.{Models, Connectors, Couplings}
 use Rattle.table.specs.declared.Verdict.{Verdict}
@@ -47,9 +49,6 @@ connectors-agree models connectors =
     ∙ (λ i. placeOf (firstFrom (λ k. not (connector-keeps-is (rowOf connectorWidth connectors k) i)) 0 n))
 
 -- ---- where no row is bad
-found-not : (k : ℕ) → At k ≡ Nothing → ⊥
-found-not k e = let z : _≡_ {A = ℕ} 0 1 = cc in omega arith
-
 all-keep : (f : ℕ → Bool) (k n : ℕ) → firstFrom (λ j. not (f j)) k n ≡ Nothing → (j : ℕ) → j < n → f (k + j) ≡ true
 all-keep f k zero e j l = absurd (omega arith)
 all-keep f k (suc n) e j l = go (f k) refl e j l (all-keep f (suc k) n)
@@ -60,18 +59,12 @@ all-keep f k (suc n) e j l = go (f k) refl e j l (all-keep f (suc k) n)
     go true t e zero l later = rw add-zero t
     go true t e (suc j) l later = let m : suc k + j ≡ k + suc j = omega arith in rw m at (later e j (omega arith))
 
-map-from : {A : Type 0} (f g : ℕ → A) (k n : ℕ) → ((j : ℕ) → j < n → f (k + j) ≡ g (k + j)) → map f (from k n) ≡ map g (from k n)
-map-from f g k zero e = refl
-map-from f g k (suc n) e =
-    let h : f k ≡ g k = rw add-zero at (e 0 (omega arith)) in
-    λ i. h i ∷ map-from f g (suc k) n (λ j l. let m : k + suc j ≡ suc k + j = omega arith in rw m at (e (suc j) (omega arith))) i
-
 -- rows that are all read whole
 pub lines-whole : {A : Type 0} (f : List ℕ → Option A) (g : ℕ → A) (width : ℕ) (words : List ℕ) → ((k : ℕ) → k < countOf width words → f (rowOf width words k) ≡ some (g k))
     → whole (map f (rowsOf width words)) ≡ map g (from 0 (countOf width words))
 lines-whole f g width words read =
     let ks = from 0 (countOf width words) in
-    ap whole (lines-are f width words ∙ map-from (λ k. f (rowOf width words k)) (λ k. some (g k)) 0 (countOf width words) (λ k l. rw zero-add (read k l)) ∙ sym (map-map some g ks))
+    ap whole (lines-are f width words ∙ map-from (λ k. f (rowOf width words k)) (λ k. some (g k)) 0 (countOf width words) (λ k low l. read k (omega arith)) ∙ sym (map-map some g ks))
     ∙ whole-some (map g ks)
 
 -- the rows of a part in which none is bad keep their rules

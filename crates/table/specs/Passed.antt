@@ -7,7 +7,7 @@ use mathlib.Core.Option.{Option, none, some}
 use native.Mathlib.Decide.{decLe}
 use native.Mathlib.Nat.{add-zero, zero-add}
 use native.Mathlib.Omega.{arith}
-use lib.ListN.{length, getD, take, length-map, drop-of-length-le, List·getD-eq-default}
+use lib.ListN.{length, getD, take, drop-of-length-le, List·getD-eq-default}
 use lib.Dec.{T, leb, eqb, leb→le, eqb→eq}
 use lib.Ieee.Bits.{is-true}
 use Rattle.rules.specs.Sizes.{isId}
@@ -19,6 +19,7 @@ use Rattle.rules.specs.Decides.{Judged, intake-exactly, rows-first, connectors-
 use Rattle.rules.specs.Depth.{depths, depthAt, fine, passed-again}
 use Rattle.rules.specs.Layout.{cell, parentIn, kindIn, modelWidth, connectorWidth, couplingWidth, connectorRow, couplingRow, lent}
 use Rattle.rules.specs.Layout as Layout
+use Rattle.words.specs.Lists.{length-lines, getD-from}
 use Rattle.words.specs.declared.Found.{Found}
 use Rattle.words.specs.declared.Found.the-variants.{At, Nothing}
 use Rattle.table.specs.declared.Part.the-variants.{Models, Connectors, Couplings}
@@ -47,18 +48,6 @@ couplingAt couplings k = couplingOf (rowOf couplingWidth couplings k)
 place-none : (f : Found) → placeOf f ≡ none → f ≡ Nothing
 place-none (At k) e = absurd (no-some (sym e))
 place-none Nothing e = refl
-
-length-from : (k n : ℕ) → length (from k n) ≡ n
-length-from k zero = refl
-length-from k (suc n) = ap suc (length-from (suc k) n)
-
-length-lines : {A : Type 0} (f : ℕ → A) (n : ℕ) → length (map f (from 0 n)) ≡ n
-length-lines f n = length-map (from 0 n) f ∙ length-from 0 n
-
-getD-from : {A : Type 0} (f : ℕ → A) (d : A) (k n i : ℕ) → i < n → getD (map f (from k n)) i d ≡ f (k + i)
-getD-from f d k zero i l = absurd (omega arith)
-getD-from f d k (suc n) zero l = rw add-zero
-getD-from f d k (suc n) (suc i) l = let e : suc k + i ≡ k + suc i = omega arith in getD-from f d (suc k) n i (omega arith) ∙ ap f e
 
 -- ---- one row
 row-is : (row : List ℕ) (o : Option Kind) (r : Row) → Layout.rowIn row o ≡ some r → o ≡ some (kindOr o)

@@ -107,12 +107,12 @@ abbrev pub IsFirst : (ℕ → Bool) → ℕ → ℕ → ℕ → Type 0
 IsFirst test k n j =
     (k ≤ j) × (j < k + n) × (test j ≡ true) × (those test (from k n) ≡ j ∷ those test (from (suc j) (k + n - suc j)))
 
-never : (j : ℕ) → At j ≡ Nothing → ⊥
-never j h = let z : _≡_ {A = ℕ} 0 1 = cc in omega arith
+pub found-not : (j : ℕ) → At j ≡ Nothing → ⊥
+found-not j h = let z : _≡_ {A = ℕ} 0 1 = cc in omega arith
 
 module _ (test : ℕ → Bool) where
   pub first-at : (k n j : ℕ) → firstFrom test k n ≡ At j → IsFirst test k n j
-  first-at k zero j h = elim (never j (sym h)) [ ]
+  first-at k zero j h = elim (found-not j (sym h)) [ ]
   first-at k (suc n) j h = by (test k) refl h (first-at (suc k) n j)
     where
       by : (t : Bool) → test k ≡ t → (if t then At k else firstFrom test (suc k) n) ≡ At j → (firstFrom test (suc k) n ≡ At j → IsFirst test (suc k) n j) → IsFirst test k (suc n) j
@@ -130,7 +130,7 @@ module _ (test : ℕ → Bool) where
   first-nothing k (suc n) h = by (test k) h (first-nothing (suc k) n)
     where
       by : (t : Bool) → (if t then At k else firstFrom test (suc k) n) ≡ Nothing → (firstFrom test (suc k) n ≡ Nothing → those test (from (suc k) n) ≡ []) → (if t then k ∷ those test (from (suc k) n) else those test (from (suc k) n)) ≡ []
-      by true h later = elim (never k h) [ ]
+      by true h later = elim (found-not k h) [ ]
       by false h later = later h
 
   pub first-some : (k n : ℕ) → isFound (firstFrom test k n) ≡ some-of test (from k n)
@@ -146,3 +146,7 @@ pub first-ext : (f g : ℕ → Bool) (k n : ℕ) → ((j : ℕ) → k ≤ j → 
 first-ext f g k zero agree = refl
 first-ext f g k (suc n) agree =
     rw (agree k (omega arith) (omega arith), first-ext f g (suc k) n (λ j h below. agree j (omega arith) (omega arith)))
+
+-- a search up to a count that is the list's length
+pub found-to : (test : ℕ → Bool) (start end n : ℕ) (r x : Found) → end ≡ n → r ≡ firstFrom test start (n - start) → r ≡ x → firstFrom test start (end - start) ≡ x
+found-to test start end n r x whole h e = rw whole (sym h ∙ e)

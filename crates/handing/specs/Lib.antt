@@ -1,0 +1,2 @@
+-- What the contracts of `handing` cite.
+pub mod Handing

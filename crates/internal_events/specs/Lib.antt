@@ -1,0 +1,2 @@
+-- The laws that the proofs of `internal_events` cite.
+pub mod Internal

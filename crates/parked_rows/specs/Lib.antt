@@ -1,0 +1,2 @@
+-- What the contracts of `parked_rows` cite.
+pub mod Parking

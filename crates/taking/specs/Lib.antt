@@ -1,0 +1,3 @@
+-- The active messages as they are taken: definitions, then laws.
+pub mod Taking
+pub mod TakingLaws
