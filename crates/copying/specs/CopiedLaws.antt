@@ -85,7 +85,7 @@ module _ (at : ℕ) (mem : List ℕ) where
       λ i. sym (messages-written n room fits) i ++ drop (words i) buffer
 
 -- ---- messages laid down leave a buffer as long as it was
-written-long : (rows : List Message) → length (writtenAll rows) ≡ messageWidth * length rows
+pub written-long : (rows : List Message) → length (writtenAll rows) ≡ messageWidth * length rows
 unfolding written
 written-long [] = refl
 written-long (m ∷ ms) = let h = written-long ms in omega (arith, length-append (written m) (writtenAll ms))

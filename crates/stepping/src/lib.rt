@@ -29,7 +29,7 @@ pub enum Stepped {
 }
 
 // The clock.
-fn clock_at(mem: &[u64]) -> f64
+pub fn clock_at(mem: &[u64]) -> f64
     requires { ⌜ (2 ≤ length (now mem)) × T (isTime (clockIn (now mem))) ⌝ }
     ensures { λ r. ⌜ r ≡ clockIn (now (mem .entry)) ⌝ }
 {

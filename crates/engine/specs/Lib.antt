@@ -1,0 +1,3 @@
+-- What the contracts of `engine` cite, and the laws of a run.
+pub mod Telling
+pub mod RunLaws

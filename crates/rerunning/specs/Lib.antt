@@ -1,0 +1,4 @@
+-- What the contracts of `rerunning` cite, and the laws of it.
+pub mod Running
+pub mod Within
+pub mod RunningLaws
