@@ -89,14 +89,21 @@ module _ (b width : ℕ) (mem : List ℕ) where
   pub replaced-same : mem ≡ replaced b width (ownIn b width mem) mem
   replaced-same = sym (rw (← drop-drop width b mem, take-append-drop width (drop b mem)) (take-append-drop b mem))
 
--- ---- words from b on that are each as they were are so as a list
-pub own-alike : (b width : ℕ) (mem after : List ℕ) → length after ≡ length mem → ((p : ℕ) → b ≤ p → p < b + width → wordAt after p ≡ wordAt mem p) → ownIn b width after ≡ ownIn b width mem
-own-alike b width mem after long same = ext-getD 0 (ownIn b width after) (ownIn b width mem) (simp (length-take, length-drop, long)) word
+-- ---- words from b on that are each as they were are so as a list, where it reaches as far as it did
+pub own-reaching : (b width : ℕ) (mem after : List ℕ) → length (ownIn b width after) ≡ length (ownIn b width mem) → ((p : ℕ) → b ≤ p → p < b + width → wordAt after p ≡ wordAt mem p) → ownIn b width after ≡ ownIn b width mem
+own-reaching b width mem after reach same = ext-getD 0 (ownIn b width after) (ownIn b width mem) reach word
   where
     word : (i : ℕ) → i < length (ownIn b width after) → wordAt (ownIn b width after) i ≡ wordAt (ownIn b width mem) i
     word i l =
         let m : i < width = omega (arith, length-take width (drop b after)) in
         getD-take width (drop b after) i 0 m ∙ getD-drop b after i 0 ∙ same (b + i) (omega arith) (omega arith) ∙ sym (getD-take width (drop b mem) i 0 m ∙ getD-drop b mem i 0)
+
+-- it does in words of the same length
+pub own-reach : (b width : ℕ) (mem after : List ℕ) → length after ≡ length mem → length (ownIn b width after) ≡ length (ownIn b width mem)
+own-reach b width mem after long = simp (length-take, length-drop, long)
+
+pub own-alike : (b width : ℕ) (mem after : List ℕ) → length after ≡ length mem → ((p : ℕ) → b ≤ p → p < b + width → wordAt after p ≡ wordAt mem p) → ownIn b width after ≡ ownIn b width mem
+own-alike b width mem after long same = own-reaching b width mem after (own-reach b width mem after long) same
 
 -- ---- one word is written after a part
 pub set-own : (b width at v : ℕ) (mem : List ℕ) → b + width ≤ at → ownIn b width (set mem at v) ≡ ownIn b width mem

@@ -85,6 +85,6 @@ pub fn set_timer(mem: &mut [u64], row: usize, timer: u64)
     requires { ⌜ headAt row + 4 ≤ length (now mem) ⌝ }
     ensures { λ _. ⌜ now (mem .exit) ≡ set (now (mem .entry)) (headAt row + 1) timer ⌝ }
 {
-    let head = row * 4 + 3;
-    mem[head + 1] = timer;
+    let first = row * 4 + 3;
+    mem[first + 1] = timer;
 }

@@ -1,4 +1,3 @@
 -- What the contracts of `rerunning` cite, and the laws of it.
 pub mod Running
-pub mod Within
 pub mod RunningLaws

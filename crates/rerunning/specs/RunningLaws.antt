@@ -32,7 +32,7 @@ use Rattle.stepping.specs.Simulating.{clockIn, activeIn, simIn, Sound, Went}
 use Rattle.rerunning.specs.declared.Next.{Next}
 use Rattle.rerunning.specs.declared.Next.the-variants as next
 use Rattle.rerunning.specs.Running.{tailIn, Stored, simOf, reached, Completed, Goes, Arrives, Refuses, Nexts}
-use Rattle.rerunning.specs.Within.{within-world, within-ready}
+use Rattle.views.specs.Frames.{within-world, within-ready}
 
 -- ---- what was done is one thing, and is not refused
 abbrev simulation-of : Simulation → Outcome Simulation → Simulation

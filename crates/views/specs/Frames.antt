@@ -18,7 +18,7 @@ use Rattle.words.specs.Queue.{queueIn}
 use Rattle.marks.specs.Jobs.{jobsIn}
 use Rattle.memory.specs.Words.{wordAt, headAt, phaseIn, timerIn, heldIn, beginIn, widthOf, ownIn, Own}
 use Rattle.memory.specs.View.{workingOf, batchingOf, watchingOf, parkedOf, stateIn, wordRules, WordsFit}
-use Rattle.memory.specs.Places.{own-alike}
+use Rattle.memory.specs.Places.{own-reaching, own-reach, part-length}
 use Rattle.views.specs.World.{beginOf, endOf, stateOf, statesIn, worldIn, Laid, Ready, Frame}
 use Rattle.views.specs.Layout.{begins-apart, begin-end, head-begin, states-long, state-is}
 
@@ -30,16 +30,16 @@ record Same (j b width : ℕ) (mem after : List ℕ) : Type 0 where
   begin : beginIn after j ≡ beginIn mem j
   own : ownIn b width after ≡ ownIn b width mem
 
-row-same : (j b width : ℕ) (mem after : List ℕ) → length after ≡ length mem
+row-same : (j b width : ℕ) (mem after : List ℕ) → length (ownIn b width after) ≡ length (ownIn b width mem)
     → ((p : ℕ) → headAt j ≤ p → p < headAt j + 4 → wordAt after p ≡ wordAt mem p)
     → ((p : ℕ) → b ≤ p → p < b + width → wordAt after p ≡ wordAt mem p)
     → Same j b width mem after
-row-same j b width mem after long head own = record {
+row-same j b width mem after reach head own = record {
   phase = head (headAt j) (omega arith) (omega arith);
   timer = head (headAt j + 1) (omega arith) (omega arith);
   held = head (headAt j + 2) (omega arith) (omega arith);
   begin = head (headAt j + 3) (omega arith) (omega arith);
-  own = own-alike b width mem after long own;
+  own = own-reaching b width mem after reach own;
 }
 
 -- so is its state, and its words fit as before
@@ -69,7 +69,7 @@ module _ (t : Table) (i lo hi : ℕ) (mem after : List ℕ) (inside : i < length
     (own : Own i (beginOf t i) (widthOf (kindAt t i)) lo hi mem after) where
   -- every other row is as it was
   other-same : (j : ℕ) → j < length (t .rows) → (j < i) ⊎ (i < j) → Same j (beginOf t j) (widthOf (kindAt t j)) mem after
-  other-same j l apart = row-same j (beginOf t j) (widthOf (kindAt t j)) mem after (own .long) head words
+  other-same j l apart = row-same j (beginOf t j) (widthOf (kindAt t j)) mem after (own-reach (beginOf t j) (widthOf (kindAt t j)) mem after (own .long)) head words
     where
       head : (p : ℕ) → headAt j ≤ p → p < headAt j + 4 → wordAt after p ≡ wordAt mem p
       head p from to = own .rest p (record {
@@ -123,29 +123,57 @@ module _ (t : Table) (i lo hi : ℕ) (mem after : List ℕ) (inside : i < length
     high = λ p l out. own .rest p (record { place = inr (omega arith); head = inr (omega arith); own = inr (omega arith); out = out });
   }
 
--- ---- a change outside of the rows' words and the place
-module _ (t : Table) (mem after : List ℕ) (long : length after ≡ length mem) (same : (p : ℕ) → 2 ≤ p → p < endOf t → wordAt after p ≡ wordAt mem p) where
+-- ---- the rows' words and the place are as they were, and reach as far as they did
+module _ (t : Table) (mem after : List ℕ) (reach : (j : ℕ) → j < length (t .rows) → length (ownIn (beginOf t j) (widthOf (kindAt t j)) after) ≡ length (ownIn (beginOf t j) (widthOf (kindAt t j)) mem))
+    (same : (p : ℕ) → 2 ≤ p → p < endOf t → wordAt after p ≡ wordAt mem p) where
   each-same : (j : ℕ) → j < length (t .rows) → Same j (beginOf t j) (widthOf (kindAt t j)) mem after
   each-same j l =
       let h = head-begin t j j l in
       let e = begin-end t j l in
-      row-same j (beginOf t j) (widthOf (kindAt t j)) mem after long (λ p from to. same p (omega arith) (omega arith)) (λ p from to. same p (omega arith) (omega arith))
+      row-same j (beginOf t j) (widthOf (kindAt t j)) mem after (reach j l) (λ p from to. same p (omega arith) (omega arith)) (λ p from to. same p (omega arith) (omega arith))
 
-  pub far-laid : Laid t mem → Laid t after
-  far-laid laid = record {
-    room = let r = laid .room in omega (arith, long);
+  same-laid : endOf t ≤ length after → Laid t mem → Laid t after
+  same-laid fits laid = record {
+    room = fits;
     begins = λ j l. each-same j l .begin ∙ laid .begins j l;
     words = λ j l. words-same (kindAt t j) (beginOf t j) mem after j (each-same j l) (laid .words j l);
   }
 
-  pub far-world : (log : List Happening) → worldIn t after log ≡ worldIn t mem log
-  far-world log = λ k. record { states = states k; place = same 2 (omega arith) (omega arith) k; log = log }
+  same-world : (log : List Happening) → worldIn t after log ≡ worldIn t mem log
+  same-world log = λ k. record { states = states k; place = same 2 (omega arith) (omega arith) k; log = log }
     where
       states : statesIn t after ≡ statesIn t mem
       states = states-are t after (statesIn t mem) (states-long t mem) (λ j l. state-is t mem j l ∙ sym (state-same (kindAt t j) (beginOf t j) mem after j (each-same j l)))
 
+  same-ready : endOf t ≤ length after → Ready t mem → Ready t after
+  same-ready fits ready = record { laid = same-laid fits (ready .laid); good = subst (λ (w : World). Good t w) (sym (same-world [])) (ready .good) }
+
+-- a change outside of them
+module _ (t : Table) (mem after : List ℕ) (long : length after ≡ length mem) (same : (p : ℕ) → 2 ≤ p → p < endOf t → wordAt after p ≡ wordAt mem p) where
+  as-long : (j : ℕ) → j < length (t .rows) → length (ownIn (beginOf t j) (widthOf (kindAt t j)) after) ≡ length (ownIn (beginOf t j) (widthOf (kindAt t j)) mem)
+  as-long j l = own-reach (beginOf t j) (widthOf (kindAt t j)) mem after long
+
+  pub far-laid : Laid t mem → Laid t after
+  far-laid laid = same-laid t mem after as-long same (let r = laid .room in omega (arith, long)) laid
+
+  pub far-world : (log : List Happening) → worldIn t after log ≡ worldIn t mem log
+  far-world = same-world t mem after as-long same
+
   pub far-ready : Ready t mem → Ready t after
-  far-ready ready = record { laid = far-laid (ready .laid); good = subst (λ (w : World). Good t w) (sym (far-world [])) (ready .good) }
+  far-ready ready = same-ready t mem after as-long same (let r = ready .laid .room in omega (arith, long)) ready
+
+-- the same words in a list of another length
+module _ (t : Table) (mem after : List ℕ) (room : endOf t ≤ length mem) (fits : endOf t ≤ length after) (same : (p : ℕ) → 2 ≤ p → p < endOf t → wordAt after p ≡ wordAt mem p) where
+  within : (j : ℕ) → j < length (t .rows) → length (ownIn (beginOf t j) (widthOf (kindAt t j)) after) ≡ length (ownIn (beginOf t j) (widthOf (kindAt t j)) mem)
+  within j l =
+      let e = begin-end t j l in
+      part-length (beginOf t j) (widthOf (kindAt t j)) after (omega arith) ∙ sym (part-length (beginOf t j) (widthOf (kindAt t j)) mem (omega arith))
+
+  pub within-world : (log : List Happening) → worldIn t after log ≡ worldIn t mem log
+  within-world = same-world t mem after within same
+
+  pub within-ready : Ready t mem → Ready t after
+  within-ready = same-ready t mem after within same fits
 
 -- ---- frames: of a change that is none, of two changes, and in a range that holds another
 pub frame-same : (t : Table) (lo hi : ℕ) (mem : List ℕ) → Frame t lo hi mem mem
