@@ -30,7 +30,7 @@ pub width-read : (k : Table.Kind) (read known : Kind) → read ≡ named k → r
 width-read k read known e f = ap widthNamed (sym f ∙ e) ∙ width-named k
 
 -- ---- the last row's own words end where all do
-widths-next : (rows : List Table.Row) (i : ℕ) → i < length rows → widthsOf rows (suc i) ≡ widthsOf rows i + widthOf (getD rows i noRow .kind)
+pub widths-next : (rows : List Table.Row) (i : ℕ) → i < length rows → widthsOf rows (suc i) ≡ widthsOf rows i + widthOf (getD rows i noRow .kind)
 widths-next [] i l = absurd (omega arith)
 widths-next (r ∷ rs) zero l = omega arith
 widths-next (r ∷ rs) (suc i) l = let h = widths-next rs i (omega arith) in omega arith

@@ -50,7 +50,7 @@ module _ (test : ℕ → Bool) where
       let z = if-both (test k) (every test (from (suc k) n)) t in
       ⊎-elim (λ e. subst (λ i. T (test i)) e (z .0)) (λ l. every-at (suc k) n j (z .1) l (omega arith)) (eq-or-lt-of-le a)
 
-  every-from : (k n : ℕ) → ((j : ℕ) → k ≤ j → j < k + n → T (test j)) → T (every test (from k n))
+  pub every-from : (k n : ℕ) → ((j : ℕ) → k ≤ j → j < k + n → T (test j)) → T (every test (from k n))
   every-from k zero f = tt
   every-from k (suc n) f =
       if-both-i (test k) (every test (from (suc k) n)) (f k (omega arith) (omega arith)) (every-from (suc k) n (λ j a b. f j (omega arith) (omega arith)))
@@ -187,7 +187,7 @@ markOf Stop clock = stopped clock
 abbrev unmarked : ℕ → Marks
 unmarked name = record { name = name; start = none; stop = none }
 
-not-made : markIn (toBits binary64 never) ≡ none
+pub not-made : markIn (toBits binary64 never) ≡ none
 unfolding timeOfBits isTime fits le toBits ofBits
 not-made = refl
 

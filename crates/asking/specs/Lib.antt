@@ -1,0 +1,3 @@
+-- What the contracts of `asking` cite, and the laws of it.
+pub mod Told
+pub mod AskLaws

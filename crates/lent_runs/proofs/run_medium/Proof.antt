@@ -1,0 +1,27 @@
+-- `lent_runs::run_medium` meets its contract. Assumes nothing.
+use native.Mathlib.Omega.{arith}
+use Rattle.lent_runs.specs.BackLaws.{words-enough}
+use borrow.Author.Needs.{needs}
+use Rattle.lent_runs.proofs.run_medium.Statement.{statement}
+use Rattle.lent_runs.proofs.run_medium.Tie as tie
+
+slice-aggregate-run-in : tie.Need-slice-aggregate-run-in
+slice-aggregate-run-in c = search needs
+
+run-in-requires : tie.Need-run-in-requires
+run-in-requires c κs =
+    let start = c .before .before .before .before .before .before in
+    (start .pre .0, words-enough (start .args .state .now) 24 _ (start .pre .1) (omega arith))
+
+same-length : tie.Need-same-length
+same-length c = search needs
+
+same-length-2 : tie.Need-same-length-2
+same-length-2 c = search needs
+
+returns : tie.Need-returns
+returns c = search needs
+
+pub run-medium-spec : {M : Type 1} → statement M
+run-medium-spec =
+    tie.close (tie.spec slice-aggregate-run-in run-in-requires same-length same-length-2 returns)

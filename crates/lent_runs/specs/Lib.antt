@@ -1,0 +1,3 @@
+-- What the contracts of `lent_runs` cite, and the laws of it.
+pub mod Reported
+pub mod BackLaws
