@@ -19,6 +19,10 @@ use Rattle.storing.specs.State.{laidState, over, kept, wordsFor, isStore
 unfoldable pub simulationIn : List ℕ → Outcome Simulation
 simulationIn state = if isStored state then done (simOf state) else refused BadState
 
+-- a call on the simulation that a buffer holds
+abbrev pub callIn : {A : Type 0} → (Simulation → Outcome A) → List ℕ → Outcome A
+callIn call state = simulationIn state >>= call
+
 -- ---- "A refused call returns its number and changes neither the simulation .. nor any lent buffer."
 abbrev pub answered : {A : Type 0} → Outcome A → Answer
 answered (refused r) = answer.Refused r
@@ -42,7 +46,7 @@ module _ (models connectors couplings : List ℕ) where
   postIn state = if hasRoom state then post (lent models connectors couplings) else refused BadState
 
   unfoldable pub putIn : List ℕ → Outcome Simulation
-  putIn state = simulationIn state >>= λ sim. if hasRoom state then put (lent models connectors couplings) sim else refused BadState
+  putIn state = callIn (λ sim. if hasRoom state then put (lent models connectors couplings) sim else refused BadState) state
 
   abbrev pub leftAnew : List ℕ → Outcome Simulation → List ℕ
   leftAnew state (refused r) = state
