@@ -197,15 +197,9 @@ passes-20 state s = same-test (isValid (simOf state)) true (λ _. tt) (λ _. is-
 
 -- ---- step_until: a bad `until` is refused before any step, and else it is the run
 module _ (services : List Float) (until : Float) (room allowance : ℕ) (state : List ℕ) (s : Stored state) where
-  until-bad : isTime until ≡ false → stepUntil services until room allowance (simOf state) ≡ ended (Refused BadTime) (simOf state)
+  pub until-bad : isTime until ≡ false → stepUntil services until room allowance (simOf state) ≡ ended (Refused BadTime) (simOf state)
   unfolding stepUntil
   until-bad e = rw (passes-20 state s) (rw e refl)
-
-  pub told-bad : (mem rows : List ℕ) → isTime until ≡ false → simIn (tableIn state) mem ≡ simOf state → Sound (tableIn state) mem
-      → Told (record { steps = 0; written = 0; end = end.Refused BadTime }) (stepUntil services until room allowance (simOf state)) (tableIn state) mem rows rows
-  told-bad mem rows e is sound =
-      subst (λ (ran : Ran). Told (record { steps = 0; written = 0; end = end.Refused BadTime }) ran (tableIn state) mem rows rows) (sym (until-bad e))
-      (record { end = refl; steps = refl; written = refl; sim = is; sound = sound; rows = refl })
 
   pub until-good : isTime until ≡ true → stepUntil services until room allowance (simOf state) ≡ stepsUntil services until room allowance (simOf state)
   unfolding stepUntil
@@ -218,7 +212,7 @@ doneFor Reached = Reached
 doneFor Spent = Done
 doneFor (Refused r) = Refused r
 
-abbrev asDone : Ran → Ran
+abbrev pub asDone : Ran → Ran
 asDone r = record { end = doneFor (r .end); sim = r .sim; steps = r .steps; rows = r .rows; log = r .log }
 
 below-never : (x : Float) → T (isTime x) → lt x never ≡ true
@@ -251,21 +245,6 @@ module _ (services : List Float) (short : T (isWord (length services))) where
       (ends-map (step-ends NotTwenty (λ _. Unit {0}) services sim short (any-closed (sim .table)) v tt) (λ r b. b) (λ r h. h .0))
       (λ next w. steps-run count (room - length (next .active)) next w)
 
-  stepN-run : (room count : ℕ) (state : List ℕ) → Stored state → stepN services room count (simOf state) ≡ asDone (stepsUntil services never room count (simOf state))
+  pub stepN-run : (room count : ℕ) (state : List ℕ) → Stored state → stepN services room count (simOf state) ≡ asDone (stepsUntil services never room count (simOf state))
   unfolding stepN
   stepN-run room count state s = rw (passes-20 state s) (steps-run count room (simOf state) (stored-valid state s))
-
-  -- the run's report, told as step_n tells it
-  pub told-done : (room count : ℕ) (state : List ℕ) → Stored state → (t : Table) (mem before laid : List ℕ) (r r' : Report)
-      → Told r (stepsUntil services never room count (simOf state)) t mem before laid → r' .steps ≡ r .steps → r' .written ≡ r .written → endIs (r' .end) ≡ doneFor (endIs (r .end))
-      → Told r' (stepN services room count (simOf state)) t mem before laid
-  told-done room count state s t mem before laid r r' told steps-are written-are end-is =
-      subst (λ (ran : Ran). Told r' ran t mem before laid) (sym (stepN-run room count state s))
-      (record {
-        end = end-is ∙ ap doneFor (told .end);
-        steps = steps-are ∙ told .steps;
-        written = written-are ∙ told .written;
-        sim = told .sim;
-        sound = told .sound;
-        rows = told .rows;
-      })

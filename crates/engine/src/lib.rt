@@ -1,4 +1,4 @@
-// `step_n` and `step_until` in place: step after step, and the rows laid down.
+// A run in place: step after step, and the rows laid down.
 use rerunning::Next;
 use rules::Refusal;
 ghost use mathlib.Core.Path.{_≡_};
@@ -16,8 +16,7 @@ ghost use Rattle.views.specs.World.{endOf};
 ghost use Rattle.views.specs.Messages.{messagesIn};
 ghost use Rattle.stepping.specs.Simulating.{simIn, Sound};
 ghost use Rattle.rerunning.specs.Running.{Stored, simOf};
-ghost use Rattle.engine.specs.Telling.{endIs, Told};
-ghost use Rattle.engine.specs.RunLaws.{doneFor};
+ghost use Rattle.engine.specs.Telling.{Told};
 
 pub enum End {
     Done,
@@ -54,8 +53,8 @@ fn collect(rows: &mut [u64], mem: &[u64], written: usize, active: usize, count: 
     copying::lay_down(&mut rows[written * 6..], mem, active, count);
 }
 
-// Steps until the clock is no longer below `until`, or `bound` steps are done, or one is refused. `until` may be infinite.
-fn run(
+// `step_until` with a limit that may be infinite: steps until the clock is no longer below `until`, or `bound` steps are done, or one is refused. `until` may be infinite.
+pub fn run(
     state: &[u64],
     services: &[f64],
     mem: &mut [u64],
@@ -93,60 +92,5 @@ fn run(
         steps: steps,
         written: written,
         end: End::Spent,
-    }
-}
-
-// `step_until`, the clock's limit checked.
-pub fn step_until(
-    state: &[u64],
-    services: &[f64],
-    mem: &mut [u64],
-    until: f64,
-    allowance: u32,
-    rows: &mut [u64],
-) -> Report
-    requires { ⌜ Stored (now state) × (endOf (tableIn (now state)) + 2816 ≤ length (now mem)) ⌝ }
-    ensures told { λ r. ⌜ Told r (Calls.stepUntil (now (services .entry)) until (roomIn (now (rows .entry))) allowance (simOf (now (state .entry)))) (tableIn (now (state .entry))) (now (mem .exit)) (now (rows .entry)) (now (rows .exit)) ⌝ }
-{
-    if !times::is_time(until) {
-        begin(state, mem);
-        return Report {
-            steps: 0,
-            written: 0,
-            end: End::Refused(Refusal::BadTime),
-        };
-    }
-    run(state, services, mem, until, allowance as u64, rows)
-}
-
-// For `step_n` a run is done when its steps are.
-fn done_for(end: End) -> End
-    ensures { λ r. ⌜ endIs r ≡ doneFor (endIs end) ⌝ }
-{
-    match end {
-        End::Done => End::Done,
-        End::Reached => End::Reached,
-        End::Spent => End::Done,
-        End::Refused(refusal) => End::Refused(refusal),
-    }
-}
-
-// `step_n`: a run that no clock ends.
-pub fn step_n(
-    state: &[u64],
-    services: &[f64],
-    mem: &mut [u64],
-    count: u64,
-    rows: &mut [u64],
-) -> Report
-    requires { ⌜ Stored (now state) × (endOf (tableIn (now state)) + 2816 ≤ length (now mem)) ⌝ }
-    ensures told { λ r. ⌜ Told r (Calls.stepN (now (services .entry)) (roomIn (now (rows .entry))) count (simOf (now (state .entry)))) (tableIn (now (state .entry))) (now (mem .exit)) (now (rows .entry)) (now (rows .exit)) ⌝ }
-{
-    let report = run(state, services, mem, times::never(), count, rows);
-    let end = report.end;
-    Report {
-        steps: report.steps,
-        written: report.written,
-        end: done_for(end),
     }
 }

@@ -3,10 +3,7 @@ use mathlib.Core.List.{List}
 use lib.ListN.{length}
 use lib.Ieee.{Float}
 use Rattle.rules.specs.declared.Message.{Message}
-use Rattle.rules.specs.declared.Refusal.{Refusal}
 use Rattle.rules.specs.Base.{Outcome, refused, done}
-use Rattle.engine.specs.declared.Report.{Report}
-use Rattle.engine.specs.declared.End.the-variants as end
 use Rattle.simulation.specs.declared.Listing.{Listing}
 use Rattle.simulation.specs.declared.Listing.the-variants as listing
 use Rattle.simulation.specs.declared.Clock.{Clock}
@@ -20,7 +17,3 @@ countTold (done messages) = listing.Count (length messages)
 abbrev pub timeTold : Outcome Float → Clock
 timeTold (refused r) = clock.Refused r
 timeTold (done x) = clock.Time x
-
--- a run that was refused before its first step
-abbrev pub refusedReport : Refusal → Report
-refusedReport r = record { steps = 0; written = 0; end = end.Refused r }

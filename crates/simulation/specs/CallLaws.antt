@@ -25,9 +25,8 @@ use Rattle.engine.specs.declared.Report.{Report}
 use Rattle.storing.specs.State.{isStored, kept}
 use Rattle.storing.specs.KeptLaws.{passes-on}
 use Rattle.storing.specs.Lent.{simulationIn, answered, callIn, hasRoom, putIn, runIn, leftByRun}
-use Rattle.lent_runs.specs.Reported.{Reported}
+use Rattle.lent_runs.specs.Reported.{refusedReport, Reported}
 use Rattle.posting.specs.Laying.{Passes, renewed}
-use Rattle.simulation.specs.Answers.{refusedReport}
 use Rattle.altering.specs.Altered.{withMessage}
 
 -- ---- 20 first

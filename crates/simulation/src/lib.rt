@@ -12,7 +12,7 @@ ghost use Rattle.rules.specs.Calls as Calls;
 ghost use Rattle.storing.specs.Lent.{callIn, answered, left, listed, postIn, putIn, leftAnew, runIn, leftByRun};
 ghost use Rattle.lent_runs.specs.Reported.{Reported};
 ghost use Rattle.asking.specs.Told.{statusAnswered};
-ghost use Rattle.simulation.specs.Answers.{countTold, timeTold, refusedReport};
+ghost use Rattle.simulation.specs.Answers.{countTold, timeTold};
 
 mod value;
 
@@ -75,17 +75,6 @@ pub fn inject_input(state: &mut [u64], message: Message) -> Answer
     Answer::Done
 }
 
-// A run that was refused before its first step.
-fn refused(refusal: Refusal) -> Report
-    ensures { λ r. ⌜ r ≡ refusedReport refusal ⌝ }
-{
-    Report {
-        steps: 0,
-        written: 0,
-        end: End::Refused(refusal),
-    }
-}
-
 // One step; its messages are the rows.
 pub fn step(state: &mut [u64], services: &[f64], rows: &mut [u64]) -> Report
     ensures reports { λ r. ⌜ Reported r (runIn (Calls.step (now (services .entry)) (roomIn (now (rows .entry)))) (now (state .entry))) (now (rows .entry)) (now (rows .exit)) ⌝ }
@@ -100,7 +89,7 @@ pub fn step_n(state: &mut [u64], services: &[f64], count: u64, rows: &mut [u64])
     ensures leaves { λ _. ⌜ now (state .exit) ≡ leftByRun (now (state .entry)) (runIn (Calls.stepN (now (services .entry)) (roomIn (now (rows .entry))) count) (now (state .entry))) ⌝ }
 {
     if !holding::is_state(state) {
-        return refused(Refusal::BadState);
+        return lent_runs::refused(Refusal::BadState);
     }
     lent_runs::run(state, services, Order::Steps(count), rows)
 }
@@ -117,7 +106,7 @@ pub fn step_until(
     ensures leaves { λ _. ⌜ now (state .exit) ≡ leftByRun (now (state .entry)) (runIn (Calls.stepUntil (now (services .entry)) until (roomIn (now (rows .entry))) allowance) (now (state .entry))) ⌝ }
 {
     if !holding::is_state(state) {
-        return refused(Refusal::BadState);
+        return lent_runs::refused(Refusal::BadState);
     }
     lent_runs::run(state, services, Order::Until(until, allowance), rows)
 }

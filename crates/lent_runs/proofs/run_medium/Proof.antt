@@ -10,8 +10,7 @@ slice-aggregate-run-in c = search needs
 
 run-in-requires : tie.Need-run-in-requires
 run-in-requires c κs =
-    let start = c .before .before .before .before .before .before in
-    (start .pre .0, words-enough (start .args .state .now) 24 _ (start .pre .1) (omega arith))
+    ((c .before .before .before .before .before .before) .pre .0, words-enough ((c .before .before .before .before .before .before) .args .state .now) 24 _ ((c .before .before .before .before .before .before) .pre .1) (omega arith), (c .before .before .before .before .before .before) .pre .2)
 
 same-length : tie.Need-same-length
 same-length c = search needs

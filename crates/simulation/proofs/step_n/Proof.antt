@@ -24,7 +24,7 @@ returns c =
 
 run-requires : tie.Need-run-requires
 run-requires c κs =
-    stored ((c .before .before .before .before .before .before .before .before) .args .state .now) (sym ((c .before .before .before .is-state) .ensures) ∙ not-false ((c .before .before .before .is-state) .result) ((c .before .before .if1) .left))
+    (stored ((c .before .before .before .before .before .before .before .before) .args .state .now) (sym ((c .before .before .before .is-state) .ensures) ∙ not-false ((c .before .before .before .is-state) .result) ((c .before .before .if1) .left)), tt)
 
 same-length-2 : tie.Need-same-length-2
 same-length-2 c = search needs

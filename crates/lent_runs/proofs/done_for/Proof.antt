@@ -1,8 +1,8 @@
--- `engine::done_for` meets its contract. Assumes nothing.
+-- `lent_runs::done_for` meets its contract. Assumes nothing.
 use mathlib.Core.Path.{refl}
 use borrow.Author.Needs.{needs}
-use Rattle.engine.proofs.done_for.Statement.{statement}
-use Rattle.engine.proofs.done_for.Tie as tie
+use Rattle.lent_runs.proofs.done_for.Statement.{statement}
+use Rattle.lent_runs.proofs.done_for.Tie as tie
 
 enum-told : tie.Need-enum-told
 enum-told c = search needs

@@ -1,0 +1,3 @@
+-- What the contracts of `host` cite.
+pub mod Numbers
+pub mod NumberLaws

@@ -1,0 +1,110 @@
+/* Jambthrush: a proved discrete event simulator, called from C.
+ *
+ * A simulation lives in a buffer of 64-bit words that the caller lends to each call (docs/LAYOUT.md). There is no hidden
+ * state and no allocation: a buffer can be copied, stored in a file and handed in again, and two buffers are two simulations.
+ *
+ * Every call returns 0 or the number of a refusal (enum jt_refusal). A refused call changes neither the state buffer nor any
+ * lent buffer; jt_step_n and jt_step_until keep the steps completed before the refused one. No table, message, time or buffer
+ * can trap, hang or overflow a call; each checks all that it is handed, the state buffer first.
+ *
+ * A slice is a pointer and a length in elements. A pointer may be NULL where the length is 0. Buffers that one call is handed
+ * must not overlap. `report`, `count` and `time` must point to memory of the size shown. One buffer is used by one call at a
+ * time; calls on different buffers may run on different threads.
+ *
+ * Stack: under 64 KiB for tables of up to 8 rows, under 256 KiB for any (measured: docs/LAYOUT.md).
+ */
+#ifndef JAMBTHRUSH_H
+#define JAMBTHRUSH_H
+
+#include <stddef.h>
+#include <stdint.h>
+
+#ifdef __cplusplus
+extern "C" {
+#endif
+
+/* What a call answers. */
+enum jt_refusal {
+    JT_OK = 0,
+    JT_TOO_LARGE = 1,            /* more than 64 model rows, 256 connectors or 256 couplings */
+    JT_BAD_ROW = 2,              /* a model row breaks a rule */
+    JT_BAD_COUPLING = 3,         /* a connector or coupling breaks a rule */
+    JT_MODEL_NOT_FOUND = 4,      /* status of an id that no model without parent has */
+    JT_INVALID_MESSAGE = 5,      /* processor or stopwatch: unknown port */
+    JT_INVALID_MODEL_STATE = 6,  /* a job at an empty processor of capacity 0, or at a batcher in Release with room */
+    JT_NO_QUEUE_ROOM = 7,        /* a job would be kept, and 64 are */
+    JT_NO_MESSAGE_ROOM = 8,      /* the 257th message active or put out, or the 65th parked */
+    JT_NO_SERVICE_TIME = 9,      /* the list of service times is used up */
+    JT_BAD_TIME = 10,            /* a service time, an injected time or `until` is negative, above 2^60 or no number */
+    JT_CLOCK_OVERFLOW = 11,      /* the new clock is above 2^60 */
+    JT_IDLE = 12,                /* nothing left to do: no active message, every timer infinite */
+    JT_NO_OUT_ROOM = 13,         /* the rows do not fit the output */
+    JT_BAD_STATE = 20            /* the state buffer is too short, or does not hold a simulation */
+};
+
+/* report[2] of a run */
+enum jt_end { JT_END_DONE = 0, JT_END_REACHED = 1, JT_END_SPENT = 2, JT_END_REFUSED = 3 };
+
+/* report[0] of a status, and what report[1] then is */
+enum jt_status {
+    JT_STATUS_PROCESSOR = 0,     /* 0 Passive, 1 Active */
+    JT_STATUS_BATCHER = 1,       /* 0 Passive, 1 Batching, 2 Release */
+    JT_STATUS_MEAN = 2,          /* a stopwatch's mean duration, the bits of a double */
+    JT_STATUS_NO_MEAN = 3,       /* a stopwatch with no complete job: 0 */
+    JT_STATUS_PARKED = 4         /* how many messages a Coupled has parked */
+};
+
+/* Words of a row: a model, a connector, a coupling, a message. */
+enum { JT_MODEL_WORDS = 10, JT_CONNECTOR_WORDS = 4, JT_COUPLING_WORDS = 6, JT_MESSAGE_WORDS = 6 };
+
+/* How many words a state buffer must have for any state of a table of these lengths (in words); 0 where the table is too
+ * large. The largest is 17286. Every call refuses a shorter buffer with JT_BAD_STATE, and leaves longer ones alone beyond
+ * the state's end. */
+size_t jt_state_words(size_t models_len, size_t connectors_len, size_t couplings_len);
+
+/* A new simulation of a table, written into the state buffer, of which only the length is looked at.
+ * JT_BAD_STATE where it is shorter than jt_state_words says; else JT_TOO_LARGE, JT_BAD_ROW or JT_BAD_COUPLING. */
+uint32_t jt_post(const uint64_t *models, size_t models_len, const uint64_t *connectors, size_t connectors_len,
+                 const uint64_t *couplings, size_t couplings_len, uint64_t *state, size_t state_len);
+
+/* Fresh models of another table; active messages, clock and place in the service list stay. The buffer must be long enough
+ * for the new table too (JT_BAD_STATE). */
+uint32_t jt_put(uint64_t *state, size_t state_len, const uint64_t *models, size_t models_len,
+                const uint64_t *connectors, size_t connectors_len, const uint64_t *couplings, size_t couplings_len);
+
+/* One more active message. JT_BAD_TIME, then JT_NO_MESSAGE_ROOM. */
+uint32_t jt_inject_input(uint64_t *state, size_t state_len, uint16_t source_id, uint16_t source_port,
+                         uint16_t target_id, uint16_t target_port, double time, uint32_t content);
+
+/* One step, so many steps, or steps until the clock is no longer below `until` (at most `allowance`). `services` is the list
+ * of service times that processors read, one after the other, across calls: the state keeps its place in it. The messages of
+ * each completed step go into `rows`, six words each, one straight after the other; jt_step_until does not collect those of
+ * the step that reaches `until`, which stay active.
+ * report[0]: steps completed; report[1]: rows written; report[2]: how it ended (enum jt_end). It is written by every call,
+ * also a refused one. */
+uint32_t jt_step(uint64_t *state, size_t state_len, const double *services, size_t services_len,
+                 uint64_t *rows, size_t rows_len, uint64_t report[3]);
+uint32_t jt_step_n(uint64_t *state, size_t state_len, const double *services, size_t services_len, uint64_t count,
+                   uint64_t *rows, size_t rows_len, uint64_t report[3]);
+uint32_t jt_step_until(uint64_t *state, size_t state_len, const double *services, size_t services_len, double until,
+                       uint32_t allowance, uint64_t *rows, size_t rows_len, uint64_t report[3]);
+
+/* Messages and clock cleared, and nothing else; or one of the two. */
+uint32_t jt_reset(uint64_t *state, size_t state_len);
+uint32_t jt_reset_messages(uint64_t *state, size_t state_len);
+uint32_t jt_reset_global_time(uint64_t *state, size_t state_len);
+
+/* The status of a model without parent (enum jt_status). `report` is written only where nothing is refused. */
+uint32_t jt_get_status(const uint64_t *state, size_t state_len, uint16_t id, uint64_t report[2]);
+
+/* The active messages, six words each, and how many there are. JT_NO_OUT_ROOM where they do not fit. */
+uint32_t jt_get_messages(const uint64_t *state, size_t state_len, uint64_t *rows, size_t rows_len, uint64_t *count);
+
+/* The clock. */
+uint32_t jt_get_global_time(const uint64_t *state, size_t state_len, double *time);
+
+#ifdef __cplusplus
+}
+#endif
+
+#endif
