@@ -3,7 +3,7 @@ mod say;
 
 use memory::Answer;
 use rules::Message;
-use simulation::value::Simulation;
+use simulation::Simulation;
 
 // Id 1 a batcher (m = 2, batch time 10), id 2 a processor (capacity 8), ports in 1 and out 2.
 fn models() -> [u64; 20] {
@@ -51,13 +51,14 @@ fn job(content: u32) -> Message {
     }
 }
 
-// The simulation with jobs 11, 12 and 13 injected at 1:1.
-fn begin(state: &mut [u64]) {
+fn post(state: &mut [u64]) {
     let none = [0u64; 0];
     say::answer(simulation::post(&models(), &connectors(), &none, state));
-    say::answer(simulation::inject_input(state, job(11)));
-    say::answer(simulation::inject_input(state, job(12)));
-    say::answer(simulation::inject_input(state, job(13)));
+}
+
+// A job injected at 1:1.
+fn inject(state: &mut [u64], content: u32) {
+    say::answer(simulation::inject_input(state, job(content)));
 }
 
 fn one_step(state: &mut [u64], number: u64) {
@@ -87,6 +88,11 @@ fn run_until(state: &mut [u64]) {
     say::words(b"  state", state);
 }
 
+fn show(simulation: Simulation) {
+    let words = simulation.words;
+    say::words(b"  state", &words);
+}
+
 // The same by value, in one run.
 fn run_value() {
     let none = [0u64; 0];
@@ -98,11 +104,11 @@ fn run_value() {
     let ran = third
         .simulation
         .step_until(&services(), 10.0, 1000, &mut rows);
-    let words = ran.simulation.words;
+    let report = ran.report;
     say::text(b"by value until 10: ");
-    say::report(ran.report);
+    say::report(report);
     say::words(b"  rows", &rows);
-    say::words(b"  state", &words);
+    show(ran.simulation);
 }
 
 // A refused post hands back the simulation of the empty table.
@@ -110,18 +116,24 @@ fn refused_value() {
     let none = [0u64; 0];
     let row = [0u64; 10];
     let posted = Simulation::post(&row, &none, &none);
-    let words = posted.simulation.words;
+    let answer = posted.answer;
     say::text(b"by value, a bad row: ");
-    say::answer(posted.answer);
-    say::words(b"  state", &words);
+    say::answer(answer);
+    show(posted.simulation);
 }
 
 fn main() {
     let mut state = [0u64; 1958];
-    begin(&mut state);
+    post(&mut state);
+    inject(&mut state, 11);
+    inject(&mut state, 12);
+    inject(&mut state, 13);
     say::words(b"  state", &state);
     run_steps(&mut state);
-    begin(&mut state);
+    post(&mut state);
+    inject(&mut state, 11);
+    inject(&mut state, 12);
+    inject(&mut state, 13);
     run_until(&mut state);
     run_value();
     refused_value();

@@ -27,7 +27,8 @@ pub fn report(report: Report) {
     text(b" steps, ");
     number(report.written as u64);
     text(b" rows, ");
-    match report.end {
+    let end = report.end;
+    match end {
         End::Done => text(b"done\n"),
         End::Reached => text(b"reached\n"),
         End::Spent => text(b"spent\n"),

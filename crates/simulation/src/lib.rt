@@ -1,6 +1,5 @@
 // The calls on a simulation that the caller lends as words, and by value (value.rt). 20 first, in every call.
 use asking::Status;
-use engine::End;
 use engine::Report;
 use lent_runs::Order;
 use memory::Answer;
@@ -15,6 +14,10 @@ ghost use Rattle.asking.specs.Told.{statusAnswered};
 ghost use Rattle.simulation.specs.Answers.{countTold, timeTold};
 
 mod value;
+
+pub use value::Changed;
+pub use value::Ran;
+pub use value::Simulation;
 
 // How many messages are active, or a refusal.
 pub enum Listing {
