@@ -1,0 +1,5 @@
+-- What the contracts of `bench_file` cite, and the laws of it.
+pub mod Filing
+pub mod FilingLaws
+pub mod FileLaws
+pub mod Cases

@@ -1,0 +1,13 @@
+-- `bench_lines::left_out` meets its contract. Assumes nothing.
+use borrow.Author.Tests.{ne-eqb}
+use Rattle.bench_lines.proofs.left_out.Statement.{statement}
+use Rattle.bench_lines.proofs.left_out.Tie as tie
+
+returns : tie.Need-returns
+returns c = rw ((c .if1) .taken)
+
+returns-2 : tie.Need-returns-2
+returns-2 c = rw (ne-eqb _ _ ((c .if1) .left))
+
+pub left-out-spec : {M : Type 1} → statement M
+left-out-spec = tie.close (tie.spec returns returns-2)

@@ -1,0 +1,1 @@
+// Theorems about the rules, and nothing that runs: specs/ holds them.
