@@ -63,7 +63,7 @@ fn run_in(
     report
 }
 
-// Words for up to 8 rows: 196 a row, 3, and 2,816 for messages.
+// Words for 8 stopwatches or some 23 other rows, and 2,816 for messages.
 fn run_small(
     state: &mut [u64],
     services: &[f64],
@@ -71,7 +71,7 @@ fn run_small(
     bound: u64,
     rows: &mut [u64],
 ) -> Report
-    requires { ⌜ T (isStored (now state)) × (length (tableIn (now state) .rows) ≤ 8) × T (isTimer until) ⌝ }
+    requires { ⌜ T (isStored (now state)) × (endOf (tableIn (now state)) ≤ 1571) × T (isTimer until) ⌝ }
     ensures reports { λ r. ⌜ Reported r (Calls.stepsUntil (now (services .entry)) until (roomIn (now (rows .entry))) bound (simOf (now (state .entry)))) (now (rows .entry)) (now (rows .exit)) ⌝ }
     ensures leaves { λ _. ⌜ now (state .exit) ≡ kept (now (state .entry)) (Calls.stepsUntil (now (services .entry)) until (roomIn (now (rows .entry))) bound (simOf (now (state .entry))) .sim) ⌝ }
 {
@@ -79,7 +79,7 @@ fn run_small(
     run_in(state, services, &mut mem, until, bound, rows)
 }
 
-// Words for up to 24 rows.
+// Words for 24 stopwatches, or any number of other rows.
 fn run_medium(
     state: &mut [u64],
     services: &[f64],
@@ -87,7 +87,7 @@ fn run_medium(
     bound: u64,
     rows: &mut [u64],
 ) -> Report
-    requires { ⌜ T (isStored (now state)) × (length (tableIn (now state) .rows) ≤ 24) × T (isTimer until) ⌝ }
+    requires { ⌜ T (isStored (now state)) × (endOf (tableIn (now state)) ≤ 4707) × T (isTimer until) ⌝ }
     ensures reports { λ r. ⌜ Reported r (Calls.stepsUntil (now (services .entry)) until (roomIn (now (rows .entry))) bound (simOf (now (state .entry)))) (now (rows .entry)) (now (rows .exit)) ⌝ }
     ensures leaves { λ _. ⌜ now (state .exit) ≡ kept (now (state .entry)) (Calls.stepsUntil (now (services .entry)) until (roomIn (now (rows .entry))) bound (simOf (now (state .entry))) .sim) ⌝ }
 {
@@ -162,11 +162,11 @@ pub fn run(state: &mut [u64], services: &[f64], order: Order, rows: &mut [u64]) 
             )
         }
         Order::Bounded(until, bound) => {
-            let count = lookup::row_count(state);
-            if count <= 8 {
+            let end = active_at(state);
+            if end <= 1571 {
                 return run_small(state, services, until, bound, rows);
             }
-            if count <= 24 {
+            if end <= 4707 {
                 return run_medium(state, services, until, bound, rows);
             }
             run_large(state, services, until, bound, rows)

@@ -11,7 +11,6 @@ use Rattle.times.specs.Time.{isTime, isTimer}
 use Rattle.times.specs.Laws.{never-timer, time-timer}
 use Rattle.rules.specs.Sizes.{isWord}
 use Rattle.rules.specs.Layout.{roomIn}
-use Rattle.storing.specs.StoredLaws.{stored-of}
 use Rattle.lent_runs.specs.Reported.{Fits}
 use Rattle.lent_runs.specs.OrderLaws.{rank, steps-done, until-refused, until-run, bounded-run}
 use Prim.Native.Nat.{ℕ, _<_, _^_}
@@ -20,12 +19,12 @@ use borrow.Fn.PlainCycle.{Measures, is, falls, and}
 use Rattle.lent_runs.proofs.run.Reads as run
 use Rattle.lent_runs.proofs.run.Kinds as run-kinds
 use Rattle.lent_runs.proofs.+run.Lts-run as run-lts
+use Rattle.lent_runs.proofs.active_at.Reads as active-at-reads
 use Rattle.lent_runs.proofs.done_for.Reads as done-for-reads
 use Rattle.lent_runs.proofs.refused.Reads as refused-reads
 use Rattle.lent_runs.proofs.run_large.Reads as run-large-reads
 use Rattle.lent_runs.proofs.run_medium.Reads as run-medium-reads
 use Rattle.lent_runs.proofs.run_small.Reads as run-small-reads
-use Rattle.lookup.proofs.row_count.Reads as row-count-reads
 use Rattle.times.proofs.is_time.Reads as is-time-reads
 use Rattle.times.proofs.never.Reads as never-reads
 use Rattle.lent_runs.proofs.+run.{statement}
@@ -41,7 +40,7 @@ abbrev run-below : ℕ → In 3 run-kinds.ps
 run-below t = and 3 run-kinds.ps (falls 3 run-kinds.ps _<_ μ-run t) run.Pre
 
 abbrev run-claims : ℕ → run-lts.Claims
-run-claims t = (never-reads.Asked, never-reads.Learnt, run-below t, run.Post, done-for-reads.Asked, done-for-reads.Learnt, is-time-reads.Asked, is-time-reads.Learnt, refused-reads.Asked, refused-reads.Learnt, row-count-reads.Asked, row-count-reads.Learnt, run-small-reads.Asked, run-small-reads.Learnt, run-medium-reads.Asked, run-medium-reads.Learnt, run-large-reads.Asked, run-large-reads.Learnt)
+run-claims t = (never-reads.Asked, never-reads.Learnt, run-below t, run.Post, done-for-reads.Asked, done-for-reads.Learnt, is-time-reads.Asked, is-time-reads.Learnt, refused-reads.Asked, refused-reads.Learnt, active-at-reads.Asked, active-at-reads.Learnt, run-small-reads.Asked, run-small-reads.Learnt, run-medium-reads.Asked, run-medium-reads.Learnt, run-large-reads.Asked, run-large-reads.Learnt)
 
 run-enum-known-order : (t : ℕ) → run-lts.Need-enum-known-order (run-claims t) (run-at t) run.Post
 run-enum-known-order t c = search needs
@@ -80,13 +79,13 @@ run-run-requires-2 t c κs =
 run-enum-known-order-3 : (t : ℕ) → run-lts.Need-enum-known-order-3 (run-claims t) (run-at t) run.Post
 run-enum-known-order-3 t c = search needs
 
-run-row-count-requires : (t : ℕ) → run-lts.Need-row-count-requires (run-claims t) (run-at t) run.Post
-run-row-count-requires t c κs =
-    stored-of ((c .before .before .before .before .before .before .before) .args .state .now) ((c .before .before .before .before .before .before .before) .pre .1 .0) .inside
+run-active-at-requires : (t : ℕ) → run-lts.Need-active-at-requires (run-claims t) (run-at t) run.Post
+run-active-at-requires t c κs =
+    (c .before .before .before .before .before .before .before) .pre .1 .0
 
 run-run-small-requires : (t : ℕ) → run-lts.Need-run-small-requires (run-claims t) (run-at t) run.Post
 run-run-small-requires t c κs =
-    ((c .before .before .before .before .before .before .before .before .before .before .before) .pre .1 .0, omega (arith, (c .before .before .before .row-count) .ensures, (c .before .before .if2) .taken), subst Fits ((c .before .before .before .before .before .before .order3) .given .1) ((c .before .before .before .before .before .before .before .before .before .before .before) .pre .1 .1))
+    ((c .before .before .before .before .before .before .before .before .before .before .before) .pre .1 .0, omega (arith, (c .before .before .before .active-at) .ensures, (c .before .before .if2) .taken), subst Fits ((c .before .before .before .before .before .before .order3) .given .1) ((c .before .before .before .before .before .before .before .before .before .before .before) .pre .1 .1))
 
 run-same-length : (t : ℕ) → run-lts.Need-same-length (run-claims t) (run-at t) run.Post
 run-same-length t c = search needs
@@ -100,7 +99,7 @@ run-returns-2 t c =
 
 run-run-medium-requires : (t : ℕ) → run-lts.Need-run-medium-requires (run-claims t) (run-at t) run.Post
 run-run-medium-requires t c κs =
-    ((c .before .before .before .before .before .before .before .before .before .before .before .before) .pre .1 .0, omega (arith, (c .before .before .before .before .row-count) .ensures, (c .before .before .if3) .taken), subst Fits ((c .before .before .before .before .before .before .before .order3) .given .1) ((c .before .before .before .before .before .before .before .before .before .before .before .before) .pre .1 .1))
+    ((c .before .before .before .before .before .before .before .before .before .before .before .before) .pre .1 .0, omega (arith, (c .before .before .before .before .active-at) .ensures, (c .before .before .if3) .taken), subst Fits ((c .before .before .before .before .before .before .before .order3) .given .1) ((c .before .before .before .before .before .before .before .before .before .before .before .before) .pre .1 .1))
 
 run-same-length-3 : (t : ℕ) → run-lts.Need-same-length-3 (run-claims t) (run-at t) run.Post
 run-same-length-3 t c = search needs
@@ -162,7 +161,7 @@ pub +run-spec : {M : Type 1} → statement M
     (run-cast-t26 t)
     (run-run-requires-2 t)
     (run-enum-known-order-3 t)
-    (run-row-count-requires t)
+    (run-active-at-requires t)
     (run-run-small-requires t)
     (run-same-length t)
     (run-same-length-2 t)
