@@ -1,8 +1,8 @@
 -- The laws of the whole: the rows one after the other, the active messages, the table; and that all of these are what 20 asks of a lent state. Assumes nothing.
-use Prim.Native.Nat.{ℕ, zero, suc, _+_, _-_, _*_, _≤_, _<_, _^_}
+use Prim.Native.Nat.{ℕ, suc, _+_, _-_, _*_, _≤_, _<_, _^_}
 use mathlib.Core.Path.{_≡_, refl, sym, ap, subst, _∙_}
 use mathlib.Core.Bool.{Bool, true, false}
-use mathlib.Core.List.{List, [], _∷_, map}
+use mathlib.Core.List.{List, map}
 use native.Mathlib.Omega.{arith}
 use lib.ListN.{length, getD, take, drop, length-drop}
 use lib.Seq.{take-all, getD-drop}
@@ -19,7 +19,7 @@ use Rattle.rules.specs.Intake as Intake
 use Rattle.rules.specs.Intake.{Posted, intake, isPassed}
 use Rattle.rules.specs.Simulation.{State, stateAt}
 use Rattle.rules.specs.Valid.{stateFits, messageRules, isValid}
-use Rattle.rules.specs.Ends.{All, nil, _&_, all-map, all-every, every-all}
+use Rattle.rules.specs.Ends.{all-map, every-all}
 use Rattle.rules.specs.Decides.{Decides, passes, tells, is-true, is-false, reads, _also_, _and_, alone, itself, at-most, same, every-decides, wholeTable, intake-exactly, passes-decides, state-decides, message-decides, valid-decides}
 use Rattle.rules.specs.Depth.{passed-again}
 use Rattle.words.specs.Lists.{part-length}
@@ -40,6 +40,9 @@ use Rattle.views.specs.Messages.{messageIn, messagesIn}
 use Rattle.views.specs.MessageLaws.{messages-long}
 use Rattle.stepping.specs.Simulating.{clockIn, activeIn}
 use Rattle.rerunning.specs.Running.{tailIn, simOf}
+use Rattle.marks.specs.MarkingLaws.{every-from}
+use Rattle.copying.specs.EndLaws as laws
+use Rattle.storing.specs.StoredLaws.{widths-most}
 use Rattle.storing.specs.State.{stateWords, rowRules, rowsFit, isStored}
 use Rattle.holding.specs.declared.Next.{Next}
 use Rattle.holding.specs.declared.Next.the-variants as next
@@ -75,24 +78,8 @@ is-coupled (Table.stopwatch w) e = let z : _≡_ {A = ℕ} 0 1 = cc in absurd (o
 is-coupled Table.coupled e = refl
 
 -- ---- the rows, from the row i on
-widths-most : (rows : List Row) (i : ℕ) → widthsOf rows i ≤ i * 192
-widths-most rows zero = omega arith
-widths-most [] (suc i) = omega arith
-widths-most (r ∷ rs) (suc i) = let m = widths-most rs i in let w = wide (r .kind) in omega arith
-  where
-    wide : (k : Table.Kind) → widthOf k ≤ 192
-    wide (Table.processor p) = omega arith
-    wide (Table.batcher b) = omega arith
-    wide (Table.stopwatch w) = omega arith
-    wide Table.coupled = omega arith
-
 widths-next : (rows : List Row) (i : ℕ) → i < length rows → widthsOf rows (i + 1) ≡ widthsOf rows i + widthOf (getD rows i noRow .kind)
-widths-next rows i l = let e : i + 1 ≡ suc i = omega arith in ap (widthsOf rows) e ∙ go rows i l
-  where
-    go : (rows : List Row) (i : ℕ) → i < length rows → widthsOf rows (suc i) ≡ widthsOf rows i + widthOf (getD rows i noRow .kind)
-    go [] i l = absurd (omega arith)
-    go (r ∷ rs) zero l = omega arith
-    go (r ∷ rs) (suc i) l = let h = go rs i (omega arith) in omega arith
+widths-next rows i l = let e : i + 1 ≡ suc i = omega arith in ap (widthsOf rows) e ∙ laws.widths-next rows i l
 
 next-bad : (b : Bool) (end : ℕ) → nextIf b end ≡ next.Bad → b ≡ false
 next-bad true end e = let z : _≡_ {A = ℕ} 0 1 = cc in absurd (omega arith)
@@ -206,13 +193,6 @@ rows-are t mem = (λ h. h, λ h. h)
 -- by place
 from-at : (test : ℕ → Bool) (n : ℕ) → T (every test (from 0 n)) → (i : ℕ) → i < n → T (test i)
 from-at test n t = place-keeps (λ j. T (test j)) (λ j. j) n (all-map {R = λ j. T (test j)} (λ j. j) (every-all test (from 0 n) t) (λ j h. h))
-
-from-of : (test : ℕ → Bool) (k n : ℕ) → ((j : ℕ) → k ≤ j → j < k + n → T (test j)) → T (every test (from k n))
-from-of test k n f = all-every test (go k n f)
-  where
-    go : (k n : ℕ) → ((j : ℕ) → k ≤ j → j < k + n → T (test j)) → All (λ j. T (test j)) (from k n)
-    go k zero f = nil
-    go k (suc n) f = f k (omega arith) (omega arith) & go (suc k) n (λ j a b. f j (omega arith) (omega arith))
 
 -- ---- the active messages
 module _ (at : ℕ) (mem : List ℕ) where
@@ -351,7 +331,7 @@ module _ (state : List ℕ) where
               (
                 told .1,
                 (
-                  from-of (λ i. hold (rowRules t mem i)) 0 (length (t .rows)) (λ i a b. passes (rules-decide t mem i) (let r = row i (omega arith) in (r .0, r .1 .0))),
+                  every-from (λ i. hold (rowRules t mem i)) 0 (length (t .rows)) (λ i a b. passes (rules-decide t mem i) (let r = row i (omega arith) in (r .0, r .1 .0))),
                   passes (valid-decides (simOf state))
                       (record {
                         table = tells (passes-decides t) (passed-again (postedIn state) t (inside-of .passes));
@@ -375,7 +355,7 @@ module _ (state : List ℕ) where
                 asked .clock,
                 (
                   rows-are t mem .1
-                      (from-of (stands t mem) 0 (length (t .rows))
+                      (every-from (stands t mem) 0 (length (t .rows))
                       (λ i a b. let l : i < length (t .rows) = omega arith in
                       let words = tells (rules-decide t mem i) (from-at (λ j. hold (rowRules t mem j)) (length (t .rows)) (facts .1 .1 .0) i l) in
                       passes (stands-decide t mem i)
