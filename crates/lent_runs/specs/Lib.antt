@@ -2,3 +2,4 @@
 pub mod Reported
 pub mod BackLaws
 pub mod OrderLaws
+pub mod Unique
