@@ -430,6 +430,41 @@ static void test_bad_words(void) {
     guarded_free(b.state);
 }
 
+/* The same of a stopwatch's names and marks, and of a Coupled, which has neither phase nor timer of its own. */
+static void test_bad_marks(void) {
+    struct bench b;
+    memset(&b, 0, sizeof b);
+    stopwatch(&b, 10);
+    coupled(&b, 20, 0, 0);
+    post(&b);
+    CHECK_NUMBER(JT_OK, inject(&b, 10, 1, 5));
+    CHECK_NUMBER(JT_OK, inject(&b, 10, 1, 6));
+    CHECK_NUMBER(JT_OK, step(&b, NULL, 0));
+    const size_t tail = 3 + 20;
+    const size_t names = tail + 3 + 2 * 4;
+    const size_t starts = names + 64;
+    const size_t stops = names + 128;
+    CHECK_NUMBER(5, b.state.words[names]);
+    CHECK_NUMBER(0x7ff0000000000000, b.state.words[stops]);
+    refuses_word(&b, names, 6);
+    refuses_word(&b, names, 0x100000000);
+    refuses_word(&b, names + 2, 1);
+    refuses_word(&b, starts, 0x8000000000000000);
+    refuses_word(&b, starts + 1, 0x7ff8000000000000);
+    refuses_word(&b, starts + 2, 0x7ff0000000000000);
+    refuses_word(&b, stops, 0x43b0000000000001);
+    refuses_word(&b, stops + 63, 1);
+    refuses_word(&b, tail + 3, 2);
+    refuses_word(&b, tail + 5, 1);
+    refuses_word(&b, tail + 5, 65);
+    refuses_word(&b, tail + 7, 1);
+    refuses_word(&b, tail + 8, 0x7ff0000000000000);
+    refuses_word(&b, tail + 9, 65);
+    refuses_word(&b, names + 192, 1);
+    CHECK_NUMBER(JT_IDLE, step(&b, NULL, 0));
+    guarded_free(b.state);
+}
+
 /* Words beyond the state's end are neither read nor written. */
 static void test_beyond(void) {
     struct bench b;
@@ -480,6 +515,7 @@ int main(void) {
     test_reset_and_put();
     test_cut_short();
     test_bad_words();
+    test_bad_marks();
     test_beyond();
     test_nothing();
     return tell("calls");
