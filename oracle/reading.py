@@ -1,10 +1,9 @@
 """A second reading of the rules of docs 01, sentence after sentence, to be held against the published Rust.
 
-It is written from 01 alone. The comments are 01's sentences, some of them shortened. Left out: the layout
-and the checks of a table (refusals 1, 2, 3: a table handed in here keeps the rules), lent buffers (13) and
-states that are handed in (20).
+It is written from 01 alone. The comments are 01's sentences, some of them shortened. A lent output is here
+the number of rows that it has room for (13). Left to reading_words.py: the checks of a table (refusals 1, 2
+and 3: a table handed in here keeps the rules) and of states that are handed in (20).
 """
-import copy
 import math
 from typing import NamedTuple, Optional
 
@@ -142,6 +141,14 @@ class Model:
         self.timer = INFINITE
         self.held = []
 
+    def saved(self):
+        """What a step may change."""
+        return self.phase, self.timer, self.held[:]
+
+    def restore(self, saved):
+        """As it was."""
+        self.phase, self.timer, self.held = saved
+
     def advance(self, by):
         """Every model keeps the timer less the step's advance, rounded once."""
         self.timer -= by
@@ -240,13 +247,11 @@ class Batcher(Model):
         return [Out(self.row.output, job) for job in going]
 
 
-class Mark:
+class Mark(NamedTuple):
     """A job of a stopwatch: its name, and the clock at its start and at its stop (None before)."""
-
-    def __init__(self, name):
-        self.name = name
-        self.start = None
-        self.stop = None
+    name: int
+    start: Optional[float] = None
+    stop: Optional[float] = None
 
 
 class Stopwatch(Model):
@@ -256,9 +261,9 @@ class Stopwatch(Model):
         """A message comes."""
         # Start and stop set the clock on the job of that name, making it if new (7 if 64 names).
         if port == self.row.start:
-            self.mark_of(job).start = simulation.clock
+            self.set_mark(job, start=simulation.clock)
         elif port == self.row.stop:
-            self.mark_of(job).stop = simulation.clock
+            self.set_mark(job, stop=simulation.clock)
         # Metric: JobFetch, timer 0.
         elif port == self.row.metric:
             self.phase = 'JobFetch'
@@ -267,13 +272,13 @@ class Stopwatch(Model):
         else:
             raise Refused(5)
 
-    def mark_of(self, name):
-        """The job of that name, made if new."""
-        for mark in self.held:
+    def set_mark(self, name, **times):
+        """Sets a time of the job of that name, which is made if new."""
+        for place, mark in enumerate(self.held):
             if mark.name == name:
-                return mark
-        self.keep(Mark(name))
-        return self.held[-1]
+                self.held[place] = mark._replace(**times)
+                return
+        self.keep(Mark(name, **times))
 
     def complete(self):
         """The complete jobs, each with its duration: stop less start, rounded once."""
@@ -323,6 +328,16 @@ class Coupled:
     def timer(self):
         """Timer: least of its components', infinite with none."""
         return min((component.timer for component in self.components), default=INFINITE)
+
+    def saved(self):
+        """What a step may change."""
+        return self.parked[:], [component.saved() for component in self.components]
+
+    def restore(self, saved):
+        """As it was."""
+        self.parked, inside = saved
+        for component, was in zip(self.components, inside):
+            component.restore(was)
 
     def advance(self, by):
         """Every model keeps the timer less the step's advance: so does each component."""
@@ -450,7 +465,7 @@ class Simulation:
     def next_service_time(self):
         """The next entry of the list."""
         # 9: a service time is needed past the end of the list.
-        if self.place == len(self.services):
+        if self.place >= len(self.services):
             raise Refused(9)
         time = self.services[self.place]
         # 10: a service time read is no time.
@@ -471,13 +486,18 @@ class Simulation:
         """The least timer; infinite with no model."""
         return min((model.timer for model in self.models), default=INFINITE)
 
-    def take_step(self):
+    def take_step(self, room, until=INFINITE):
         """One step. Refused, it changes nothing (the place in the service list included)."""
-        kept = (copy.deepcopy(self.models), self.active, self.clock, self.place)
+        kept = [model.saved() for model in self.models], self.active, self.clock, self.place
         try:
             self.apply_step()
+            # 13: a step's rows must be collected, and they don't fit. It comes last.
+            if self.clock < until and len(self.active) > room:
+                raise Refused(13)
         except Refused:
-            self.models, self.active, self.clock, self.place = kept
+            saved, self.active, self.clock, self.place = kept
+            for model, was in zip(self.models, saved):
+                model.restore(was)
             raise
 
     def apply_step(self):
@@ -518,23 +538,29 @@ class Simulation:
                 # stamped with the new clock.
                 out.append(Message(*connector, self.clock, message.content))
 
-    def step(self):
-        """step is step_n for one step."""
-        return self.step_n(1)
+    def get_messages(self, room):
+        """The active messages. 13: they are listed, and don't fit."""
+        if len(self.active) > room:
+            raise Refused(13)
+        return self.active
 
-    def step_n(self, count):
+    def step(self, room=INFINITE):
+        """step is step_n for one step."""
+        return self.step_n(1, room)
+
+    def step_n(self, count, room=INFINITE):
         """It collects the messages of all its steps, and ends Done or by a refusal."""
         rows = []
         for steps in range(count):
             try:
-                self.take_step()
+                self.take_step(room - len(rows))
             except Refused as refusal:
                 # It stops at the refused step: it keeps earlier steps and rows.
                 return Ran('Refused', steps, rows, refusal.number)
             rows += self.active
         return Ran('Done', count, rows)
 
-    def step_until(self, until, allowance):
+    def step_until(self, until, allowance, room=INFINITE):
         """It ends Reached, Spent (allowance used up before that) or by a refusal."""
         # A bad until is refused before any step.
         if not is_time(until):
@@ -543,7 +569,7 @@ class Simulation:
         for steps in range(allowance):
             # It steps first and then looks:
             try:
-                self.take_step()
+                self.take_step(room - len(rows), until)
             except Refused as refusal:
                 return Ran('Refused', steps, rows, refusal.number)
             # below until it collects and goes on, else it ends and does not collect.

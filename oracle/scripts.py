@@ -36,7 +36,60 @@ class Call(NamedTuple):
     ran: Optional[Ran] = None
 
 
-class Script:
+class Messages:
+    """Chooses messages to inject: for random calls on `tables`, made so far as `calls` and `steps` say."""
+
+    random = maker = simulation = tables = contents = None
+    calls = steps = None
+
+    def some_message(self):
+        """A message to a parentless model, a few to nobody."""
+        row = self.some_target()
+        port, content = self.port_and_content(row)
+        source = (0, 0) if self.random.random() < 0.9 else (self.random.choice([5, 65535]), 3)
+        time = 0.0 if self.random.random() < 0.8 else self.maker.time()
+        return Message(*source, row.id if row else NO_TARGET, port, time, content)
+
+    def some_target(self):
+        """The row of a parentless model, often of a stopwatch with something to tell; or None."""
+        tops = parentless(self.tables[-1].rows)
+        ready = [row for row in tops if self.has_mean(row.id)]
+        if ready and self.random.random() < 0.5:
+            return self.random.choice(ready)
+        return self.random.choice(tops) if self.random.random() < 0.97 else None
+
+    def has_mean(self, identity):
+        """Whether this is a parentless stopwatch with a complete job."""
+        return any(model.id == identity and isinstance(model, Stopwatch) and model.complete()
+                   for model in self.simulation.models)
+
+    def port_and_content(self, row):
+        """Port and content of a message to this row; to a stopwatch often what goes on with a job there."""
+        port = self.maker.port_into(row, may_be_wrong=self.steps > 0)
+        content = self.random.choice(self.contents)
+        if not isinstance(row, StopwatchRow):
+            return port, content
+        marks = self.simulation.model(row.id).held
+        if marks and self.random.random() < 0.8:
+            return self.next_for_mark(row, self.random.choice(marks))
+        before = self.calls[-1] if self.calls else None
+        same = before and before.name == 'inject_input' and before.arguments[0].target == row.id
+        if same and self.random.random() < 0.7:
+            message = before.arguments[0]
+            goes_on = {row.start: row.stop, row.stop: self.random.choice([row.start, row.metric])}
+            return goes_on.get(message.target_port, port), message.content
+        return port, content
+
+    def next_for_mark(self, row, mark):
+        """Sets the mark that a job lacks, or asks, or stops it again."""
+        if mark.start is None:
+            return row.start, mark.name
+        if mark.stop is None:
+            return row.stop, mark.name
+        return self.random.choice([row.metric, row.metric, row.stop]), mark.name
+
+
+class Script(Messages):
     """A random script, planned from its seed."""
 
     def __init__(self, seed, sizes):
@@ -110,52 +163,6 @@ class Script:
         for _ in range(min(count, self.most_jobs - self.jobs)):
             self.make('inject_input', self.some_message())
             self.jobs += 1
-
-    def some_message(self):
-        """A message to a parentless model, a few to nobody."""
-        row = self.some_target()
-        port, content = self.port_and_content(row)
-        source = (0, 0) if self.random.random() < 0.9 else (self.random.choice([5, 65535]), 3)
-        time = 0.0 if self.random.random() < 0.8 else self.maker.time()
-        return Message(*source, row.id if row else NO_TARGET, port, time, content)
-
-    def some_target(self):
-        """The row of a parentless model, often of a stopwatch with something to tell; or None."""
-        tops = parentless(self.tables[-1].rows)
-        ready = [row for row in tops if self.has_mean(row.id)]
-        if ready and self.random.random() < 0.5:
-            return self.random.choice(ready)
-        return self.random.choice(tops) if self.random.random() < 0.97 else None
-
-    def has_mean(self, identity):
-        """Whether this is a parentless stopwatch with a complete job."""
-        return any(model.id == identity and isinstance(model, Stopwatch) and model.complete()
-                   for model in self.simulation.models)
-
-    def port_and_content(self, row):
-        """Port and content of a message to this row; to a stopwatch often what goes on with a job there."""
-        port = self.maker.port_into(row, may_be_wrong=self.steps > 0)
-        content = self.random.choice(self.contents)
-        if not isinstance(row, StopwatchRow):
-            return port, content
-        marks = self.simulation.model(row.id).held
-        if marks and self.random.random() < 0.8:
-            return self.next_for_mark(row, self.random.choice(marks))
-        before = self.calls[-1] if self.calls else None
-        same = before and before.name == 'inject_input' and before.arguments[0].target == row.id
-        if same and self.random.random() < 0.7:
-            message = before.arguments[0]
-            goes_on = {row.start: row.stop, row.stop: self.random.choice([row.start, row.metric])}
-            return goes_on.get(message.target_port, port), message.content
-        return port, content
-
-    def next_for_mark(self, row, mark):
-        """Sets the mark that a job lacks, or asks, or stops it again."""
-        if mark.start is None:
-            return row.start, mark.name
-        if mark.stop is None:
-            return row.stop, mark.name
-        return self.random.choice([row.metric, row.metric, row.stop]), mark.name
 
     # ---- other calls that are no runs
 

@@ -8,6 +8,7 @@ from reading import (OMITTED_CAPACITY, BatcherRow, Connector, CoupledRow, Coupli
 
 TIMES = [0.0, 0.0, 0.1, 0.1, 1.0, 1.0, 2.5, 2.5, 4.0, 4.0, 7.0, 7.0, 0.3, 0.7, 1 / 3, 2 / 7, 12.345, 1e-9]
 ODD_TIMES = [5e-324, 2.5e-308, 2.0 ** 53, 1e15 + 0.5]
+LATE_TIMES = [2.0 ** 60, 2.0 ** 60, 2.0 ** 60 - 128, 2.0 ** 59, 2.0 ** 59, 2.0 ** 58, 2.0 ** 53, 256.0, 128.0, 64.0, 2.5, 0.0]
 CAPACITIES = [1, 1, 2, 2, 3, 8, OMITTED_CAPACITY]
 MAXIMA = [1, 1, 2, 2, 2, 3, 3, 4, 2 ** 62]
 PLAIN_IDS = list(range(1, 10))
@@ -40,6 +41,7 @@ class Tables:
     def __init__(self, random, most_rows, trap_share):
         self.random = random
         self.most_rows = most_rows
+        self.times, self.odd_times = TIMES, ODD_TIMES
         self.trap = random.random() < trap_share
         self.wrong_share = random.choice([0.0, 0.0, 0.1])
         self.ids = PLAIN_IDS if self.happens(0.85) else ODD_IDS
@@ -54,7 +56,7 @@ class Tables:
 
     def time(self):
         """A batch time or a service time."""
-        return self.random.choice(TIMES if self.happens(0.97) else ODD_TIMES)
+        return self.random.choice(self.times if self.happens(0.97) else self.odd_times)
 
     def table(self):
         """A random table."""

@@ -11,6 +11,7 @@ class Watched(Simulation):
     def __init__(self, services):
         self.seen = collections.Counter()
         self.depth = {}
+        self.table = None
         # The depth of the deepest row that took a message.
         self.deepest = 0
         # How many service times were read at most, refused steps included.
@@ -21,8 +22,9 @@ class Watched(Simulation):
         super().__init__(services)
 
     def put(self, table):
-        """The depths of the rows are kept."""
+        """The table and the depths of its rows are kept."""
         super().put(table)
+        self.table = table
         self.depth = depths(table.rows)
 
     def apply_step(self):

@@ -5,46 +5,11 @@
 use std::io::{self, BufRead};
 use std::panic::{catch_unwind, AssertUnwindSafe};
 
+use oracle::{connectors, field, float, models, number, Answer, Table};
 use serde_yaml::Value;
-use sim::input_modeling::{random_variable, ContinuousRandomVariable};
-use sim::models::stopwatch::Metric;
-use sim::models::{
-    Batcher, Coupled, ExternalInputCoupling, ExternalOutputCoupling, InternalCoupling, Model,
-    Processor, ReportableModel, Stopwatch,
-};
-use sim::simulator::{Connector, Message, Simulation};
+use sim::input_modeling::random_variable;
+use sim::simulator::{Message, Simulation};
 use sim::utils::errors::SimulationError;
-
-type Answer<T> = Result<T, String>;
-
-/// A model's line: its id, its parent's id or `-`, its kind and the rest.
-struct Row {
-    id: String,
-    parent: String,
-    kind: String,
-    fields: Vec<String>,
-}
-
-/// The table as it has been read since the last `post` or `put`.
-#[derive(Default)]
-struct Table {
-    rows: Vec<Row>,
-    connectors: Vec<[String; 4]>,
-    couplings: Vec<[String; 6]>,
-}
-
-fn number(text: &str) -> Answer<usize> {
-    text.parse().map_err(|_| format!("{text} is no number of this width"))
-}
-
-/// A decimal f64, `inf`, `NaN`, or sixteen hex digits of bits after `0x`.
-fn float(text: &str) -> Answer<f64> {
-    match text.strip_prefix("0x") {
-        Some(bits) => u64::from_str_radix(bits, 16).map(f64::from_bits).ok(),
-        None => text.parse().ok(),
-    }
-    .ok_or(format!("{text} is no f64"))
-}
 
 /// The bits in hex and the number; a NaN's bits differ from machine to machine and are left out.
 fn bits(x: f64) -> String {
@@ -52,74 +17,6 @@ fn bits(x: f64) -> String {
         return "NaN".into();
     }
     format!("{:016x} ({x:?})", x.to_bits())
-}
-
-fn field(fields: &[String], index: usize) -> Answer<String> {
-    fields.get(index).cloned().ok_or("a field is lacking".into())
-}
-
-fn model(table: &Table, row: &Row) -> Answer<Model> {
-    let at = |index| field(&row.fields, index);
-    let inner: Box<dyn ReportableModel> = match row.kind.as_str() {
-        "processor" => Box::new(Processor::new(
-            ContinuousRandomVariable::List,
-            Some(at(2)?).filter(|text| text != "-").map(|text| number(&text)).transpose()?,
-            at(0)?,
-            at(1)?,
-            false,
-            None,
-        )),
-        "batcher" => Box::new(Batcher::new(at(0)?, at(1)?, float(&at(3)?)?, number(&at(2)?)?, false)),
-        "stopwatch" => Box::new(Stopwatch::new(
-            at(0)?,
-            at(1)?,
-            at(2)?,
-            at(3)?,
-            match at(4)?.as_str() {
-                "-" => Metric::default(),
-                "min" => Metric::Minimum,
-                "max" => Metric::Maximum,
-                other => return Err(format!("no metric {other}")),
-            },
-            false,
-        )),
-        "coupled" => coupled(table, &row.id)?,
-        "yaml" => return serde_yaml::from_str(&row.fields.join(" ")).map_err(|e| e.to_string()),
-        other => return Err(format!("no kind {other}")),
-    };
-    Ok(Model::new(row.id.clone(), inner))
-}
-
-fn coupled(table: &Table, id: &str) -> Answer<Box<dyn ReportableModel>> {
-    let (mut inputs, mut outputs, mut internals) = (vec![], vec![], vec![]);
-    for [owner, kind, source_id, source_port, target_id, target_port] in table.couplings.clone() {
-        match kind.as_str() {
-            _ if owner != id => (),
-            "input" => inputs.push(ExternalInputCoupling { target_id, source_port, target_port }),
-            "output" => outputs.push(ExternalOutputCoupling { source_id, source_port, target_port }),
-            "internal" => {
-                internals.push(InternalCoupling { source_id, target_id, source_port, target_port })
-            }
-            other => return Err(format!("no kind of coupling {other}")),
-        }
-    }
-    let components = models(table, id)?;
-    Ok(Box::new(Coupled::new(vec![], vec![], components, inputs, outputs, internals)))
-}
-
-fn models(table: &Table, parent: &str) -> Answer<Vec<Model>> {
-    table.rows.iter().filter(|row| row.parent == parent).map(|row| model(table, row)).collect()
-}
-
-fn connectors(table: &Table) -> Vec<Connector> {
-    table
-        .connectors
-        .iter()
-        .cloned()
-        .map(|[source_id, source_port, target_id, target_port]| {
-            Connector::new(String::new(), source_id, target_id, source_port, target_port)
-        })
-        .collect()
 }
 
 /// Makes a call. A panic is told, and the run goes on with what it left behind.
@@ -200,21 +97,11 @@ fn tell(sim: &mut Simulation) {
 
 /// Takes one line. Says whether it was a call, after which the simulation is shown.
 fn take(words: &[String], table: &mut Table, sim: &mut Simulation) -> Answer<bool> {
+    if table.take(words)? {
+        return Ok(false);
+    }
     let at = |index| field(words, index);
     match words[0].as_str() {
-        "processor" | "batcher" | "stopwatch" | "coupled" | "yaml" => {
-            let (kind, id, parent) = (at(0)?, at(1)?, at(2)?);
-            table.rows.push(Row { id, parent, kind, fields: words[3..].to_vec() });
-            return Ok(false);
-        }
-        "connector" => {
-            table.connectors.push([at(1)?, at(2)?, at(3)?, at(4)?]);
-            return Ok(false);
-        }
-        "coupling" => {
-            table.couplings.push([at(1)?, at(2)?, at(3)?, at(4)?, at(5)?, at(6)?]);
-            return Ok(false);
-        }
         "services" => {
             random_variable::lend(words[1..].iter().map(|text| float(text)).collect::<Answer<_>>()?);
             return Ok(false);

@@ -1,9 +1,9 @@
 /* The C calls, as a C program makes them: the bench's run, every refusal, buffers of every awkward length. */
 #include "guarded.h"
 #include "jambthrush.h"
+#include "kinds.h"
 
-enum { BATCH = 10, CAPACITY_GIVEN = 2, PARENT_GIVEN = 1, METRIC_GIVEN = 4 };
-enum { PROCESSOR = 1, BATCHER = 2, STOPWATCH = 3, COUPLED = 4 };
+enum { BATCH = 10 };
 
 /* A table, and a state buffer of exactly the length that it needs. */
 struct bench {

@@ -4,8 +4,8 @@
 
 #include <stdio.h>
 
-static int checks = 0;
-static int failures = 0;
+static long checks = 0;
+static long failures = 0;
 
 #define CHECK(condition)                                                                  \
     do {                                                                                  \
@@ -27,8 +27,8 @@ static int failures = 0;
         }                                                                                 \
     } while (0)
 
-static int tell(const char *name) {
-    printf("%s: %d checks, %d failed\n", name, checks, failures);
+static inline int tell(const char *name) {
+    printf("%s: %ld checks, %ld failed\n", name, checks, failures);
     return failures == 0 ? 0 : 1;
 }
 

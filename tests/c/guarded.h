@@ -1,16 +1,12 @@
-/* Buffers with canaries on both sides, copies of words, bits of a double. */
+/* Buffers with canaries on both sides, and copies of words. */
 #ifndef GUARDED_H
 #define GUARDED_H
 
-#include <stdint.h>
 #include <stdio.h>
 #include <stdlib.h>
-#include <string.h>
 
 #include "checks.h"
-
-#define CANARY 0xc0ffee00c0ffee00u
-#define MARGIN 16
+#include "words.h"
 
 /* `words` has len words, with MARGIN canaries before and after them. */
 struct guarded {
@@ -55,22 +51,6 @@ static uint64_t *copy_of(const uint64_t *words, size_t len) {
     if (len > 0)
         memcpy(copy, words, len * sizeof(uint64_t));
     return copy;
-}
-
-static int same(const uint64_t *a, const uint64_t *b, size_t len) {
-    return len == 0 || memcmp(a, b, len * sizeof(uint64_t)) == 0;
-}
-
-static uint64_t bits_of(double x) {
-    uint64_t bits;
-    memcpy(&bits, &x, sizeof bits);
-    return bits;
-}
-
-static double of_bits(uint64_t bits) {
-    double x;
-    memcpy(&x, &bits, sizeof x);
-    return x;
 }
 
 #endif

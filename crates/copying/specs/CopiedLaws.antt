@@ -1,12 +1,12 @@
 -- Words copied one by one; messages copied as words are messages laid down, and a buffer stays as long as it was. Assumes nothing.
-use Prim.Native.Nat.{ℕ, zero, suc, _+_, _*_, _≤_, _<_}
+use Prim.Native.Nat.{ℕ, zero, suc, _+_, _-_, _*_, _≤_, _<_}
 use mathlib.Core.Path.{_≡_, refl, sym, ap, _∙_}
 use mathlib.Core.List.{List, [], _∷_, _++_, map}
-use native.Mathlib.Nat.{zero-add}
+use native.Mathlib.Nat.{zero-add, le-of-eq}
 use native.Mathlib.Numerals.{add-one}
 use native.Mathlib.Omega.{arith}
 use lib.ListN.{length, getD, set, take, drop, length-append, length-drop}
-use lib.Seq.{paste-suc, getD-drop, drop-cons, drop-drop, take-add}
+use lib.Seq.{take-all, paste-suc, getD-drop, drop-cons, drop-drop, take-add}
 use lib.Dec.{T}
 use lib.Ieee.{binary64, ofBits, toBits}
 use Rattle.times.specs.Time.{isTime}
@@ -22,6 +22,10 @@ use Rattle.memory.specs.Words.{wordAt}
 use Rattle.views.specs.Messages.{messageIn, messagesIn}
 use Rattle.views.specs.MessageLaws.{messages-long}
 use Rattle.copying.specs.Copied.{copied}
+
+-- ---- the words from a place to the end, as they are lent
+pub to-end : (start : ℕ) (words : List ℕ) → take (length words - start) (drop start words) ≡ drop start words
+to-end start words = take-all (length words - start) (drop start words) (le-of-eq (length-drop start words))
 
 -- ---- one word more
 pub copied-more : (start k : ℕ) (src dst : List ℕ) → start + k < length src → k < length dst → set (copied start k src dst) k (getD src (start + k) 0) ≡ copied start (k + 1) src dst

@@ -2,3 +2,5 @@
 pub mod Copied
 pub mod CopiedLaws
 pub mod EndLaws
+pub mod Sparing
+pub mod SparingLaws

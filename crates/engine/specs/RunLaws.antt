@@ -7,7 +7,7 @@ use native.Mathlib.Omega.{arith}
 use native.Mathlib.Nat.{sub-zero, le-of-eq}
 use borrow.Rule.Slice.PartMut.{putMid}
 use lib.ListN.{length, take, drop, length-append, length-drop, drop-of-length-le}
-use lib.Seq.{take-all, take-at, drop-at, drop-drop}
+use lib.Seq.{take-at, drop-at, drop-drop}
 use lib.Dec.{T, leb}
 use lib.Ieee.{Float, lt}
 use Rattle.times.specs.Time.{never, isTime}
@@ -32,6 +32,7 @@ use Rattle.lookup.specs.Inside.{postedIn, tableIn}
 use Rattle.views.specs.World.{endOf}
 use Rattle.views.specs.Messages.{messagesIn}
 use Rattle.views.specs.MessageLaws.{messages-long}
+pub use Rattle.copying.specs.CopiedLaws.{to-end}
 use Rattle.copying.specs.CopiedLaws.{written-long}
 use Rattle.stepping.specs.Simulating.{activeIn, simIn, Sound}
 use Rattle.rerunning.specs.Running.{tailIn, Stored, simOf, reached, Goes, Arrives, Refuses}
@@ -41,9 +42,6 @@ use Rattle.engine.specs.declared.Report.{Report}
 use Rattle.engine.specs.Telling.{endIs, Told}
 
 -- ---- the words from a place to the end, as they are lent
-pub to-end : (start : ℕ) (words : List ℕ) → take (length words - start) (drop start words) ≡ drop start words
-to-end start words = take-all (length words - start) (drop start words) (le-of-eq (length-drop start words))
-
 pub put-at-end : (start : ℕ) (words new : List ℕ) → putMid start (length words - start) words new ≡ take start words ++ new
 put-at-end start words new =
     ap (λ (z : List ℕ). take start words ++ (new ++ z)) (drop-of-length-le (drop start words) (le-of-eq (length-drop start words)))

@@ -3,7 +3,7 @@ use rerunning::Next;
 use rules::Refusal;
 ghost use mathlib.Core.Path.{_≡_};
 ghost use mathlib.Core.List.{_++_};
-ghost use Prim.Native.Nat.{_+_, _*_, _≤_};
+ghost use Prim.Native.Nat.{ℕ, _+_, _*_, _≤_};
 ghost use lib.ListN.{length, take, drop};
 ghost use lib.Dec.{T};
 ghost use Rattle.times.specs.Time.{isTimer};
@@ -11,6 +11,7 @@ ghost use Rattle.rules.specs.Layout.{roomIn, laidDown};
 ghost use Rattle.rules.specs.Ends.{All};
 ghost use Rattle.rules.specs.Worlds.{MessageFits};
 ghost use Rattle.rules.specs.Calls as Calls;
+ghost use Rattle.memory.specs.Words.{wordAt};
 ghost use Rattle.lookup.specs.Inside.{tableIn};
 ghost use Rattle.views.specs.World.{endOf};
 ghost use Rattle.views.specs.Messages.{messagesIn};
@@ -32,16 +33,16 @@ pub struct Report {
     pub end: End,
 }
 
-// The lent state's simulation into the words; where the active messages begin in them.
+// The lent state's simulation into the words, which are all 0; where the active messages begin in them.
 fn begin(state: &[u64], mem: &mut [u64]) -> usize
-    requires { ⌜ Stored (now state) × (endOf (tableIn (now state)) + 2816 ≤ length (now mem)) ⌝ }
+    requires { ⌜ Stored (now state) × (endOf (tableIn (now state)) + 2816 ≤ length (now mem)) × ((p : ℕ) → wordAt (now mem) p ≡ 0) ⌝ }
     ensures begins { λ r. ⌜ r ≡ endOf (tableIn (now (state .entry))) ⌝ }
     ensures loads { λ _. ⌜ simIn (tableIn (now (state .entry))) (now (mem .exit)) ≡ simOf (now (state .entry)) ⌝ }
     ensures sound { λ _. ⌜ Sound (tableIn (now (state .entry))) (now (mem .exit)) ⌝ }
 {
     let tail = lookup::tail_at(state);
     let active = copying::end_of(state, &state[tail..]);
-    rerunning::load(state, mem, active);
+    rerunning::load_fresh(state, mem, active);
     active
 }
 
@@ -53,7 +54,7 @@ fn collect(rows: &mut [u64], mem: &[u64], written: usize, active: usize, count: 
     copying::lay_down(&mut rows[written * 6..], mem, active, count);
 }
 
-// `step_until` with a limit that may be infinite: steps until the clock is no longer below `until`, or `bound` steps are done, or one is refused. `until` may be infinite.
+// `step_until` with a limit that may be infinite: steps until the clock is no longer below `until`, or `bound` steps are done, or one is refused. `until` may be infinite. The words that are lent for the run are all 0.
 pub fn run(
     state: &[u64],
     services: &[f64],
@@ -62,7 +63,7 @@ pub fn run(
     bound: u64,
     rows: &mut [u64],
 ) -> Report
-    requires { ⌜ Stored (now state) × (endOf (tableIn (now state)) + 2816 ≤ length (now mem)) × T (isTimer until) ⌝ }
+    requires { ⌜ Stored (now state) × (endOf (tableIn (now state)) + 2816 ≤ length (now mem)) × ((p : ℕ) → wordAt (now mem) p ≡ 0) × T (isTimer until) ⌝ }
     ensures told { λ r. ⌜ Told r (Calls.stepsUntil (now (services .entry)) until (roomIn (now (rows .entry))) bound (simOf (now (state .entry)))) (tableIn (now (state .entry))) (now (mem .exit)) (now (rows .entry)) (now (rows .exit)) ⌝ }
 {
     let active = begin(state, mem);

@@ -1,13 +1,15 @@
--- The laws of a row: what 20 asks of its words and of the state that they hold, by the tests of the code; and of loops that end at the first place that fails. Assumes nothing.
+-- The laws of a row: what 20 asks of its words and of the state that they hold, by the tests of the code; and of loops that end at the first place that fails, or that join all places. Assumes nothing.
 use Prim.Native.Nat.{ℕ, zero, suc, _+_, _-_, _≤_, _<_, _^_, _/_, _%_}
 use mathlib.Core.Path.{_≡_, refl, sym, ap, subst, _∙_}
+use mathlib.Core.Logic.{inl, inr}
 use mathlib.Core.Bool.{Bool, true, false, not, _&&_}
 use mathlib.Core.List.{List, [], _∷_, map}
-use native.Mathlib.Nat.{sub-zero}
+use native.Mathlib.Nat.{sub-zero, lt-of-not-le}
 use native.Mathlib.Omega.{arith}
 use lib.ListN.{length, getD, take, drop, length-drop, length-map}
 use lib.Seq.{take-all, length-take-le, drop-cons, drop-length, getD-take, getD-drop}
 use lib.Dec.{T, leb, ltb, eqb, eqb→eq, lt→ltb}
+use lib.Bits.{bitOr, or-add-and, and-le-l, and-le-r}
 use lib.Ieee.{binary64, ofBits}
 use lib.Ieee.Fits.{eq→eqb}
 use Rattle.times.specs.Time.{isTimer}
@@ -20,8 +22,8 @@ use Rattle.rules.specs.Sizes.{isContent}
 use Rattle.rules.specs.Table.{processor, batcher, stopwatch, coupled}
 use Rattle.rules.specs.Simulation.{Parked}
 use Rattle.rules.specs.Valid.{isActive, parkedRules, marksRules, differ, names}
-use Rattle.rules.specs.Ends.{All, nil, _&_, all-map, all-every, every-all, whole-of}
-use Rattle.rules.specs.Decides.{Decides, passes, tells, is-true, is-false, reads, _also_, _and_, alone, itself, at-most, below, same}
+use Rattle.rules.specs.Ends.{if-both, if-both-i, All, nil, _&_, all-map, all-every, every-all, whole-of}
+use Rattle.rules.specs.Decides.{Decides, passes, tells, is-true, is-false, either, reads, _also_, _and_, alone, itself, at-most, below, same}
 use Rattle.words.specs.Queue.{queueIn, unusedClear}
 use Rattle.table.specs.Agrees.{one}
 use Rattle.marks.specs.Jobs.{jobsIn, fitIn}
@@ -74,6 +76,32 @@ module _ (test : ℕ → Bool) (words : List ℕ) where
 abbrev clears : List ℕ → Bool
 clears words = every (λ w. eqb w 0) words
 
+-- a loop that joins the words as it goes, and looks once, at the end
+module _ (words : List ℕ) (joined k : ℕ) where
+  abbrev pub joinedFrom : Bool
+  joinedFrom = if eqb joined 0 then eachFrom (λ w. eqb w 0) words k (length words - k) else false
+
+  pub joined-over : length words ≤ k → joinedFrom ≡ eqb joined 0
+  joined-over l = rw (each-over (λ w. eqb w 0) words k l) (one (eqb joined 0))
+
+-- a joined word is 0 exactly if both are: with the bits that they share it is their sum
+joined-clear : (a b : ℕ) → eqb (bitOr a b) 0 ≡ (if eqb a 0 then eqb b 0 else false)
+joined-clear a b =
+    let sum = or-add-and a b in let left = and-le-l a b in let right = and-le-r a b in
+    same-test (eqb (bitOr a b) 0) (if eqb a 0 then eqb b 0 else false)
+    (λ t. let e = eqb→eq (bitOr a b) 0 t in if-both-i (eqb a 0) (eqb b 0) (passes (same a 0) (omega arith)) (passes (same b 0) (omega arith)))
+    (λ t. let h = if-both (eqb a 0) (eqb b 0) t in let x = eqb→eq a 0 (h .0) in let y = eqb→eq b 0 (h .1) in passes (same (bitOr a b) 0) (omega arith))
+
+pub joined-on : (words : List ℕ) (joined k : ℕ) → k < length words → joinedFrom words joined k ≡ joinedFrom words (bitOr joined (getD words k 0)) (k + 1)
+joined-on words joined k l =
+    let w = getD words k 0 in
+    rw (sweep-turn (eachFrom (λ w. eqb w 0) words) (λ j. eqb (getD words j 0) 0) (λ _. refl) (λ _ _. refl) k (length words) l, joined-clear joined w)
+    (nested (eqb joined 0) (eqb w 0) (eachFrom (λ w. eqb w 0) words (k + 1) (length words - (k + 1))))
+  where
+    nested : (a b c : Bool) → (if a then (if b then c else false) else false) ≡ (if (if a then b else false) then c else false)
+    nested true b c = refl
+    nested false b c = refl
+
 clear-at : (words : List ℕ) (k : ℕ) → T (clears words) → getD words k 0 ≡ 0
 clear-at words k t = go words k (every-all (λ w. eqb w 0) words t)
   where
@@ -88,6 +116,43 @@ clear-of words f = all-every (λ w. eqb w 0) (go words f)
     go : (words : List ℕ) → ((k : ℕ) → k < length words → getD words k 0 ≡ 0) → All (λ w. T (eqb w 0)) words
     go [] f = nil
     go (w ∷ ws) f = eq→eqb (f 0 (omega arith)) & go ws (λ k l. f (suc k) (omega arith))
+
+-- ---- places lent from one to before another
+module _ (own : List ℕ) (start end : ℕ) where
+  abbrev pub part : List ℕ
+  part = take (end - start) (drop start own)
+
+  part-at : T (clears part) → (p : ℕ) → start ≤ p → p < end → getD own p 0 ≡ 0
+  part-at t p a b =
+      let e : start + (p - start) ≡ p = omega arith in
+      ap (λ (q : ℕ). getD own q 0) (sym e) ∙ sym (getD-drop start own (p - start) 0) ∙ sym (getD-take (end - start) (drop start own) (p - start) 0 (omega arith)) ∙ clear-at part (p - start) t
+
+  part-of : start ≤ end → end ≤ length own → ((p : ℕ) → start ≤ p → p < end → getD own p 0 ≡ 0) → T (clears part)
+  part-of low room f =
+      let d = length-drop start own in
+      let n = length-take-le (end - start) (drop start own) (omega arith) in
+      clear-of part (λ k l. getD-take (end - start) (drop start own) k 0 (omega arith) ∙ getD-drop start own k 0 ∙ f (start + k) (omega arith) (omega arith))
+
+-- the places of a row's own words after those held
+module _ (held : ℕ) (own : List ℕ) (long : length own ≡ 64) where
+  pub rest-is : held ≤ 64 → clears (part own held 64) ≡ unusedClear held own
+  rest-is l = ap clears (take-all (64 - held) (drop held own) (let d = length-drop held own in omega arith))
+
+  module _ (few : held ≤ 8) where
+    pub last-left : clears (part own 8 64) ≡ false → unusedClear held own ≡ false
+    last-left e =
+        sym (rest-is (omega arith))
+        ∙ is-false (itself (clears (part own held 64))) (λ t. subst T e (part-of own 8 64 (omega arith) (omega arith) (λ p a b. part-at own held 64 t p (omega arith) b)))
+
+    pub first-left : clears (part own 8 64) ≡ true → clears (part own held 8) ≡ unusedClear held own
+    first-left e =
+        same-test (clears (part own held 8)) (clears (part own held 64))
+        (λ t. part-of own held 64 (omega arith) (omega arith) (λ p a b. elim (either (at-most 8 p)) [
+          | inl l ↦ part-at own 8 64 (subst T (sym e) tt) p l b
+          | inr n ↦ part-at own held 8 t p a (lt-of-not-le n)
+        ]))
+        (λ t. part-of own held 8 few (omega arith) (λ p a b. part-at own held 64 t p a (omega arith)))
+        ∙ rest-is (omega arith)
 
 -- ---- a queue
 module _ (held : ℕ) (own : List ℕ) where
@@ -105,14 +170,9 @@ module _ (held : ℕ) (own : List ℕ) where
   pub queue-bad : every isContent (take (held - 0) (drop 0 own)) ≡ false → queueFits held own ≡ false
   queue-bad e = is-false queue-decides (λ h. subst T (ap (every isContent) (sym jobs-are) ∙ e) (h .1 .0))
 
-  module _ (long : length own ≡ 64) where
-    -- the places after them
-    rest-is : held ≤ 64 → take (64 - held) (drop held own) ≡ drop held own
-    rest-is l = take-all (64 - held) (drop held own) (let d = length-drop held own in omega arith)
-
-    pub queue-rest : held ≤ 64 → every isContent (take (held - 0) (drop 0 own)) ≡ true → clears (take (64 - held) (drop held own)) ≡ queueFits held own
-    unfolding queueFits
-    queue-rest l e = ap clears (rest-is l) ∙ sym (rw (is-true (at-most held 64) l, ap (every isContent) (sym jobs-are) ∙ e) (one (unusedClear held own)))
+  pub queue-rest : held ≤ 64 → every isContent (take (held - 0) (drop 0 own)) ≡ true → unusedClear held own ≡ queueFits held own
+  unfolding queueFits
+  queue-rest l e = sym (rw (is-true (at-most held 64) l, ap (every isContent) (sym jobs-are) ∙ e) (one (unusedClear held own)))
 
 -- ---- a processor's row
 -- "at least one job if Active"
@@ -197,10 +257,9 @@ module _ (phase timer held : ℕ) (own : List ℕ) where
           (λ h. let n = length-map (take held own) parkedOf in let l = jobs-long (h .1 .1 .0) in let m = h .1 .1 .0 in
           (h, (omega arith, all-every (λ (m : Parked). hold (parkedRules m)) (all-map {R = λ (m : Parked). T (hold (parkedRules m))} parkedOf (words-in held own wide) parked-fits))))
 
-      pub coupled-rest : phase ≡ 0 → timer ≡ 0 → held ≤ 64 → clears (take (64 - held) (drop held own)) ≡ rowFits coupled phase timer held own
+      pub coupled-rest : phase ≡ 0 → timer ≡ 0 → held ≤ 64 → unusedClear held own ≡ rowFits coupled phase timer held own
       coupled-rest a b l =
-          ap clears (rest-is held own long l)
-          ∙ same-test (unusedClear held own) (rowFits coupled phase timer held own) (λ u. passes coupled-decides (a, (b, (l, u)))) (λ r. tells coupled-decides r .1 .1 .1)
+          same-test (unusedClear held own) (rowFits coupled phase timer held own) (λ u. passes coupled-decides (a, (b, (l, u)))) (λ r. tells coupled-decides r .1 .1 .1)
 
   -- ---- a stopwatch's
   module _ (w : Stopwatch) where
@@ -220,21 +279,6 @@ module _ (phase timer held : ℕ) (own : List ℕ) where
         (λ u. passes stopwatch-decides (omega arith, (subst T (sym t) tt, (subst T (sym f) tt, u)))) (λ r. tells stopwatch-decides r .1 .1 .1)
 
 -- ---- the places of its three columns after the jobs, as they are lent
-module _ (own : List ℕ) (start end : ℕ) where
-  abbrev pub part : List ℕ
-  part = take (end - start) (drop start own)
-
-  part-at : T (clears part) → (p : ℕ) → start ≤ p → p < end → getD own p 0 ≡ 0
-  part-at t p a b =
-      let e : start + (p - start) ≡ p = omega arith in
-      ap (λ (q : ℕ). getD own q 0) (sym e) ∙ sym (getD-drop start own (p - start) 0) ∙ sym (getD-take (end - start) (drop start own) (p - start) 0 (omega arith)) ∙ clear-at part (p - start) t
-
-  part-of : start ≤ end → end ≤ length own → ((p : ℕ) → start ≤ p → p < end → getD own p 0 ≡ 0) → T (clears part)
-  part-of low room f =
-      let d = length-drop start own in
-      let n = length-take-le (end - start) (drop start own) (omega arith) in
-      clear-of part (λ k l. getD-take (end - start) (drop start own) k 0 (omega arith) ∙ getD-drop start own k 0 ∙ f (start + k) (omega arith) (omega arith))
-
 module _ (held : ℕ) (own : List ℕ) (few : held ≤ 64) (long : length own ≡ 192) where
   starts-clear : T (unusedIn held own) → T (clears (part own (64 + held) 128))
   starts-clear u =

@@ -23,10 +23,8 @@ use Rattle.rules.specs.Ends.{all-map, every-all}
 use Rattle.rules.specs.Decides.{Decides, passes, tells, is-true, is-false, reads, _also_, _and_, alone, itself, at-most, same, every-decides, wholeTable, intake-exactly, passes-decides, state-decides, message-decides, valid-decides}
 use Rattle.rules.specs.Depth.{passed-again}
 use Rattle.words.specs.Lists.{part-length}
-use Rattle.table.specs.declared.Kind.the-variants as kind
 use Rattle.table.specs.declared.Verdict.{Verdict}
 use Rattle.table.specs.declared.Verdict.the-variants as verdict
-use Rattle.table.specs.Readers.{named}
 use Rattle.table.specs.Verdicts.{verdictOf}
 use Rattle.table.specs.Agrees.{one}
 use Rattle.table.specs.Judged.{large-models, large-connectors, large-couplings}
@@ -69,13 +67,6 @@ row-says k known begin mem i phase timer held end fits r is b p t h e f g =
     let width : end - begin ≡ widthOf known = omega arith in
     g ∙ (λ j. nextIf (f j) (e j)) ∙ (λ j. nextIf (rowFits known (p j) (t j) (h j) (take (width j) (drop begin mem))) (begin + widthOf known)) ∙ row-next known begin mem i b
     ∙ ap (λ (j : Table.Kind). rowEnd j begin mem i) (sym is)
-
--- the kind that the reader names
-pub is-coupled : (k : Table.Kind) → named k ≡ kind.Coupled → k ≡ Table.coupled
-is-coupled (Table.processor p) e = let z : _≡_ {A = ℕ} 0 1 = cc in absurd (omega arith)
-is-coupled (Table.batcher b) e = let z : _≡_ {A = ℕ} 0 1 = cc in absurd (omega arith)
-is-coupled (Table.stopwatch w) e = let z : _≡_ {A = ℕ} 0 1 = cc in absurd (omega arith)
-is-coupled Table.coupled e = refl
 
 -- ---- the rows, from the row i on
 widths-next : (rows : List Row) (i : ℕ) → i < length rows → widthsOf rows (i + 1) ≡ widthsOf rows i + widthOf (getD rows i noRow .kind)

@@ -1,6 +1,4 @@
 // Refusal 20 of a lent state: whether the buffer holds a simulation. Layout: docs/LAYOUT.md.
-use rules::Processor;
-use table::Kind;
 use table::Verdict;
 ghost use mathlib.Core.Path.{_≡_};
 ghost use Prim.Native.Nat.{_+_, _*_, _≤_, _<_};
@@ -12,9 +10,11 @@ ghost use Rattle.rules.specs.Base.{every, hold};
 ghost use Rattle.rules.specs.Sizes.{isContent};
 ghost use Rattle.rules.specs.Table as Table;
 ghost use Rattle.rules.specs.Table.{kindAt};
+ghost use Rattle.rules.specs.declared.Processor.{Processor};
 ghost use Rattle.rules.specs.declared.Batcher.{Batcher};
 ghost use Rattle.rules.specs.declared.Stopwatch.{Stopwatch};
-ghost use Rattle.rules.specs.Valid.{messageRules};
+ghost use Rattle.rules.specs.Valid.{kindNumber, messageRules};
+ghost use Rattle.words.specs.Queue.{unusedClear};
 ghost use Rattle.marks.specs.MarkingLaws.{unusedIn};
 ghost use Rattle.memory.specs.Words.{headAt};
 ghost use Rattle.views.specs.Messages.{messageIn, messagesIn};
@@ -45,18 +45,31 @@ fn is_timer(bits: u64) -> bool
     bits == 0x7FF0_0000_0000_0000
 }
 
-// Whether each place holds 0.
+// Whether each place holds 0. It never ends early, so that the compiler may join several words at once.
 fn is_clear(places: &[u64]) -> bool
     ensures { λ r. ⌜ r ≡ every (λ w. eqb w 0) (now (places .entry)) ⌝ }
 {
+    let mut joined: u64 = 0;
     let mut k = 0;
     while k < places.len() {
-        if places[k] != 0 {
-            return false;
-        }
+        joined |= places[k];
         k += 1;
     }
-    true
+    joined == 0
+}
+
+// The places after those held. As a rule few are: the last 56 are then joined by themselves, a number fixed for the compiler.
+fn rest_clear(own: &[u64], held: usize) -> bool
+    requires { ⌜ (held ≤ 64) × (length (now own) ≡ 64) ⌝ }
+    ensures { λ r. ⌜ r ≡ unusedClear held (now (own .entry)) ⌝ }
+{
+    if 8 < held {
+        return is_clear(&own[held..64]);
+    }
+    if !is_clear(&own[8..64]) {
+        return false;
+    }
+    is_clear(&own[held..8])
 }
 
 // Whether each job is a content.
@@ -85,13 +98,13 @@ fn queue_fits(own: &[u64], held: u64) -> bool
     if !are_contents(&own[0..end]) {
         return false;
     }
-    is_clear(&own[end..64])
+    rest_clear(own, end)
 }
 
 // Passive is phase 0 and Active 1, so an Active one without jobs holds fewer than its phase.
-fn processor_fits(model: Processor, phase: u64, timer: u64, held: u64, own: &[u64]) -> bool
+fn processor_fits(capacity: u64, phase: u64, timer: u64, held: u64, own: &[u64]) -> bool
     requires { ⌜ length (now own) ≡ 64 ⌝ }
-    ensures { λ r. ⌜ r ≡ rowFits (Table.processor model) phase timer held (now (own .entry)) ⌝ }
+    ensures { λ r. ⌜ ((model : Processor) → capacity ≡ model .«queue_capacity» → r ≡ rowFits (Table.processor model) phase timer held (now (own .entry))) ⌝ }
 {
     if 1 < phase {
         return false;
@@ -99,7 +112,7 @@ fn processor_fits(model: Processor, phase: u64, timer: u64, held: u64, own: &[u6
     if !is_timer(timer) {
         return false;
     }
-    if model.queue_capacity < held {
+    if capacity < held {
         return false;
     }
     if held < phase {
@@ -165,7 +178,7 @@ fn coupled_fits(phase: u64, timer: u64, held: u64, own: &[u64]) -> bool
     if 64 < held {
         return false;
     }
-    is_clear(&own[held as usize..64])
+    rest_clear(own, held as usize)
 }
 
 fn next_if(fits: bool, end: usize) -> Next
@@ -177,7 +190,28 @@ fn next_if(fits: bool, end: usize) -> Next
     Next::Bad
 }
 
-// A row whose own words are to begin at `begin`: where they end, if it fits. No row of a table that passed is Broken.
+// Intake has judged each row, so its kind's number says the kind, and no other word of it need be looked at again.
+fn kind_number(state: &[u64], row: usize) -> u64
+    requires { ⌜ Inside (now state) × (row < length (tableIn (now state) .rows)) ⌝ }
+    ensures { λ r. ⌜ r ≡ kindNumber (kindAt (tableIn (now (state .entry))) row) ⌝ }
+{
+    let start = row * 10 + 3;
+    state[start + 1]
+}
+
+// A processor's capacity: omitted, it is 2^64 - 1.
+fn capacity_of(state: &[u64], row: usize) -> u64
+    requires { ⌜ Inside (now state) × (row < length (tableIn (now state) .rows)) ⌝ }
+    ensures { λ r. ⌜ ((model : Processor) → kindAt (tableIn (now (state .entry))) row ≡ Table.processor model → r ≡ model .«queue_capacity») ⌝ }
+{
+    let start = row * 10 + 3;
+    if state[start + 2] / 2 % 2 == 1 {
+        return state[start + 8];
+    }
+    0xFFFF_FFFF_FFFF_FFFF
+}
+
+// A row whose own words are to begin at `begin`: where they end, if it fits.
 fn row_end(state: &[u64], mem: &[u64], row: usize, begin: usize) -> Next
     requires { ⌜ Inside (now state) × (row < length (tableIn (now state) .rows)) × (headAt row + 4 ≤ length (now mem)) × (begin + 192 ≤ length (now mem)) ⌝ }
     ensures { λ r. ⌜ r ≡ rowEnd (kindAt (tableIn (now (state .entry))) row) begin (now (mem .entry)) row ⌝ }
@@ -191,21 +225,22 @@ fn row_end(state: &[u64], mem: &[u64], row: usize, begin: usize) -> Next
     let timer = mem[head + 1];
     let held = memory::held_at(mem, row);
     let end = begin + 64;
-    match lookup::kind_of(state, row) {
-        Kind::Processor(model) => {
-            next_if(
-                processor_fits(model, phase, timer, held, &mem[begin..end]),
-                end,
-            )
-        }
-        Kind::Batcher(_) => next_if(batcher_fits(phase, timer, held, &mem[begin..end]), end),
-        Kind::Stopwatch(_) => {
-            let last = begin + 192;
-            next_if(stopwatch_fits(phase, timer, held, &mem[begin..last]), last)
-        }
-        Kind::Coupled => next_if(coupled_fits(phase, timer, held, &mem[begin..end]), end),
-        Kind::Broken => Next::Bad,
+    let kind = kind_number(state, row);
+    if kind == 1 {
+        let capacity = capacity_of(state, row);
+        return next_if(
+            processor_fits(capacity, phase, timer, held, &mem[begin..end]),
+            end,
+        );
     }
+    if kind == 2 {
+        return next_if(batcher_fits(phase, timer, held, &mem[begin..end]), end);
+    }
+    if kind == 3 {
+        let last = begin + 192;
+        return next_if(stopwatch_fits(phase, timer, held, &mem[begin..last]), last);
+    }
+    next_if(coupled_fits(phase, timer, held, &mem[begin..end]), end)
 }
 
 // The rows in order, each beginning where the one before it ends.

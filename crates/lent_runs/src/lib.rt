@@ -4,7 +4,7 @@ use engine::Report;
 use rules::Refusal;
 ghost use mathlib.Core.Path.{_≡_};
 ghost use Prim.Native.Nat.{_+_, _≤_};
-ghost use lib.ListN.{length};
+ghost use lib.ListN.{length, replicate};
 ghost use lib.Dec.{T};
 ghost use Rattle.times.specs.Time.{isTimer};
 ghost use Rattle.rules.specs.Layout.{roomIn};
@@ -34,18 +34,19 @@ fn active_at(state: &[u64]) -> usize
     copying::end_of(state, &state[tail..])
 }
 
-// The simulation in the words, back into the lent state.
+// The simulation in the words, back into the lent state: what neither holds is 0 in both.
 fn write_back(state: &mut [u64], mem: &[u64])
     requires { ⌜ T (isStored (now state)) × Sound (tableIn (now state)) (now mem) ⌝ }
     ensures { λ _. ⌜ now (state .exit) ≡ kept (now (state .entry)) (simIn (tableIn (now (state .entry))) (now (mem .entry))) ⌝ }
 {
     let tail = lookup::tail_at(state);
     let end = active_at(state);
+    let rows = lookup::row_count(state);
     let count = mem[0] as usize;
-    copying::copy(&mut state[tail..], mem, 0, end + count * 6);
+    copying::copy_held(&mut state[tail..], mem, rows, end, count);
 }
 
-// One run, in words that are lent for it.
+// One run, in words that are lent for it, all 0.
 fn run_in(
     state: &mut [u64],
     services: &[f64],
@@ -54,7 +55,7 @@ fn run_in(
     bound: u64,
     rows: &mut [u64],
 ) -> Report
-    requires { ⌜ T (isStored (now state)) × (endOf (tableIn (now state)) + 2816 ≤ length (now mem)) × T (isTimer until) ⌝ }
+    requires { ⌜ T (isStored (now state)) × (endOf (tableIn (now state)) + 2816 ≤ length (now mem)) × (now mem ≡ replicate (length (now mem)) 0) × T (isTimer until) ⌝ }
     ensures reports { λ r. ⌜ Reported r (Calls.stepsUntil (now (services .entry)) until (roomIn (now (rows .entry))) bound (simOf (now (state .entry)))) (now (rows .entry)) (now (rows .exit)) ⌝ }
     ensures leaves { λ _. ⌜ now (state .exit) ≡ kept (now (state .entry)) (Calls.stepsUntil (now (services .entry)) until (roomIn (now (rows .entry))) bound (simOf (now (state .entry))) .sim) ⌝ }
 {

@@ -24,10 +24,13 @@ use Rattle.rules.specs.Calls as Calls
 use Rattle.rules.specs.Calls.{Ran, ended, thenRan, onward, fitting, look}
 use Rattle.memory.specs.Words.{wordAt}
 use Rattle.lookup.specs.Inside.{tailAt, tableIn}
-use Rattle.views.specs.World.{endOf}
+use Rattle.views.specs.World.{endOf, Laid}
 use Rattle.views.specs.Messages.{messagesIn}
 use Rattle.views.specs.MessageLaws.{messages-same, messages-long}
 use Rattle.copying.specs.Copied.{copied}
+use Rattle.copying.specs.CopiedLaws.{to-end}
+use Rattle.copying.specs.Sparing.{Lends}
+use Rattle.copying.specs.SparingLaws.{zero-spare}
 use Rattle.stepping.specs.Simulating.{clockIn, activeIn, simIn, Sound, Went}
 use Rattle.rerunning.specs.declared.Next.{Next}
 use Rattle.rerunning.specs.declared.Next.the-variants as next
@@ -166,6 +169,26 @@ module _ (state mem : List ℕ) (stored : Stored state) (room : endOf (tableIn s
         let n : active + count * 6 ≡ used = (let m = count-is in omega arith) in
         let whole : after ≡ laid-in = e ∙ (λ i. copied (is-tail i) (n i) state mem) in
         subst (λ (words : List ℕ). (simIn table words ≡ simOf state) × Sound table words × (length words ≡ length mem)) (sym whole) (loaded-is, loaded-sound, loaded-long)
+
+    -- the same into words that are all 0: what the state does not hold is 0 there too
+    abbrev lent : List ℕ
+    lent = take (length state - tail) (drop tail state)
+
+    lent-is : lent ≡ tailIn state
+    lent-is = to-end tail state ∙ ap (λ (k : ℕ). drop k state) is-tail
+
+    pub lends-held : (rows : ℕ) → rows ≡ length (table .rows) → ((p : ℕ) → wordAt mem p ≡ 0) → Lends rows active lent mem × (active + count * 6 ≤ length lent) × (active + count * 6 ≤ length mem)
+    lends-held rows is-rows zeros =
+        let n = count-is in
+        let r = stored .room in
+        let l = ap length lent-is in (
+          record { table = table; counted = is-rows; ends = is-active; laid = subst (Laid table) (sym lent-is) (stored .ready .laid); spare = zero-spare table mem zeros; room = omega arith },
+          omega arith,
+          copy-fits .3,
+        )
+
+    pub loads-held : (after : List ℕ) → after ≡ copied 0 (active + count * 6) lent mem → (simIn table after ≡ simOf state) × Sound table after × (length after ≡ length mem)
+    loads-held after e = loads-all after (e ∙ ap (λ (words : List ℕ). copied 0 (active + count * 6) words mem) (to-end tail state))
 
 -- ---- the look at the clock and the room left, after a completed step
 module _ (services : List Float) (until : Float) (room steps : ℕ) (state mem after : List ℕ) where

@@ -2,11 +2,12 @@
 use rules::Refusal;
 use stepping::Stepped;
 ghost use mathlib.Core.Path.{_≡_};
-ghost use Prim.Native.Nat.{_+_, _≤_};
+ghost use Prim.Native.Nat.{ℕ, _+_, _≤_};
 ghost use lib.ListN.{length};
 ghost use lib.Dec.{T};
 ghost use Rattle.times.specs.Time.{isTimer};
 ghost use Rattle.rules.specs.Base.{done};
+ghost use Rattle.memory.specs.Words.{wordAt};
 ghost use Rattle.lookup.specs.Inside.{tableIn};
 ghost use Rattle.views.specs.World.{endOf};
 ghost use Rattle.stepping.specs.Simulating.{simIn, Sound};
@@ -30,6 +31,19 @@ pub fn load(state: &[u64], mem: &mut [u64], active: usize)
     let tail = lookup::tail_at(state);
     let count = state[tail] as usize;
     copying::copy(mem, state, tail, active + count * 6);
+}
+
+// The same into words that are all 0, by the words that are held alone.
+pub fn load_fresh(state: &[u64], mem: &mut [u64], active: usize)
+    requires { ⌜ Stored (now state) × (endOf (tableIn (now state)) + 2816 ≤ length (now mem)) × (active ≡ endOf (tableIn (now state))) × ((p : ℕ) → wordAt (now mem) p ≡ 0) ⌝ }
+    ensures loads { λ _. ⌜ simIn (tableIn (now (state .entry))) (now (mem .exit)) ≡ simOf (now (state .entry)) ⌝ }
+    ensures sound { λ _. ⌜ Sound (tableIn (now (state .entry))) (now (mem .exit)) ⌝ }
+    ensures long { λ _. ⌜ length (now (mem .exit)) ≡ length (now (mem .entry)) ⌝ }
+{
+    let tail = lookup::tail_at(state);
+    let rows = lookup::row_count(state);
+    let count = state[tail] as usize;
+    copying::copy_held(mem, &state[tail..], rows, active, count);
 }
 
 // So many steps again, from the lent state. They were completed before.

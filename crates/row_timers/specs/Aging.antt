@@ -2,22 +2,22 @@
 use Prim.Native.Nat.{ℕ, _+_, _≤_, _<_}
 use mathlib.Core.Path.{_≡_, refl, sym, ap, _∙_, subst, transport}
 use mathlib.Core.Logic.{_⊎_, inl, inr}
-use mathlib.Core.Bool.{true, false, false≢true}
+use mathlib.Core.Bool.{Bool, true, false, false≢true}
 use mathlib.Core.List.{List, [], map}
 use native.Mathlib.Omega.{arith}
 use lib.ListN.{length, set, length-set, length-map}
 use lib.Seq.{getD-set-same, getD-set-other}
-use lib.Dec.{T}
+use lib.Dec.{T, eqb→eq}
 use lib.Ieee.{Float, binary64, sub, ofBits, toBits, eq}
 use lib.Ieee.Bits.{ofBits-toBits}
 use lib.Ieee.Fits.{sub-fits}
-use Rattle.times.specs.Time.{instant, isTime, isTimer}
+use Rattle.times.specs.Time.{instant, never, isTime, isTimer}
 use Rattle.times.specs.Laws as law
 use Rattle.rules.specs.Sizes.{isWord}
 use Rattle.rules.specs.Table.{Kind, processor, batcher, stopwatch, coupled, Table, kindAt, isCoupled}
 use Rattle.rules.specs.Simulation.{State, ofProcessor, ofBatcher, ofStopwatch, ofCoupled, stateAt}
 use Rattle.rules.specs.Step.{after}
-use Rattle.rules.specs.Ends.{All}
+use Rattle.rules.specs.Ends.{All, nil, _&_}
 use Rattle.rules.specs.Least.{Fitted, ownTimer, Below}
 use Rattle.rules.specs.Worlds.{after-at, fitted-after}
 use Rattle.words.specs.Queue.{queueIn}
@@ -57,6 +57,13 @@ coupled-stays (batcher m) b i a mem e = absurd (false≢true e)
 coupled-stays (stopwatch w) b i a mem e = absurd (false≢true e)
 coupled-stays coupled b i a mem e = refl
 
+never-ages : (k : Kind) (b i : ℕ) (a : Float) (mem : List ℕ) → T (isTime a) → ofBits binary64 (timerIn mem i) ≡ never → stateIn k b mem i ≡ after a (stateIn k b mem i)
+never-ages k b i a mem u e = by (isCoupled k) refl
+  where
+    by : (c : Bool) → isCoupled k ≡ c → stateIn k b mem i ≡ after a (stateIn k b mem i)
+    by true c = coupled-stays k b i a mem c
+    by false c = ticked-state k b i a mem mem c (record { phase = refl; timer = sym (ap (λ (x : Float). sub binary64 x a) e ∙ law.after-never never a law.never-timer u (law.timers-never a (law.time-timer a u)) .1 refl ∙ sym e); held = refl; own = refl })
+
 -- ---- a turn of the row i: its state is the one after the advance, and no other word is touched
 pub record Aged (t : Table) (a : Float) (i : ℕ) (mem next : List ℕ) : Type 0 where
   pub own : Own i (beginOf t i) (widthOf (kindAt t i)) 0 0 mem next
@@ -71,6 +78,15 @@ module _ (t : Table) (a : Float) (i : ℕ) (inside : i < length (t .rows)) (mem 
     place = refl;
     words = laid .words i inside;
     state = coupled-stays (kindAt t i) (beginOf t i) i a mem e;
+  }
+
+  -- a timer that never runs out stays
+  pub aged-never : T (isTime a) → ofBits binary64 (timerIn mem i) ≡ never → Aged t a i mem mem
+  aged-never u e = record {
+    own = own-same i (beginOf t i) (widthOf (kindAt t i)) 0 0 mem;
+    place = refl;
+    words = laid .words i inside;
+    state = never-ages (kindAt t i) (beginOf t i) i a mem u e;
   }
 
   abbrev bits : ℕ
@@ -99,6 +115,17 @@ module _ (t : Table) (a : Float) (i : ℕ) (inside : i < length (t .rows)) (mem 
     words = ticked-words (kindAt t i) (beginOf t i) i a mem next e ticked (laid .words i inside);
     state = ticked-state (kindAt t i) (beginOf t i) i a mem next e ticked;
   }
+
+-- ---- the timer's word is a timer's in any row: a Coupled's is 0
+any-timer : (k : Kind) (b : ℕ) (mem : List ℕ) (i : ℕ) → WordsFit k b mem i → T (isTimer (ownTimer (stateIn k b mem i))) → T (isTimer (ofBits binary64 (timerIn mem i)))
+unfolding ofBits
+any-timer (processor p) b mem i fit timer = timer
+any-timer (batcher m) b mem i fit timer = timer
+any-timer (stopwatch w) b mem i fit timer = timer
+any-timer coupled b mem i (phase & none & held & unused & nil) timer = subst (λ (n : ℕ). T (isTimer (ofBits binary64 n))) (sym (eqb→eq (timerIn mem i) 0 none)) (law.time-timer instant law.instant-time)
+
+pub timer-any : (t : Table) (mem : List ℕ) (i : ℕ) → i < length (t .rows) → Laid t mem → T (isTimer (ownTimer (stateOf t mem i))) → T (isTimer (ofBits binary64 (timerIn mem i)))
+timer-any t mem i inside laid timer = any-timer (kindAt t i) (beginOf t i) mem i (laid .words i inside) timer
 
 -- ---- the rows before `row` have had their turn, the others have not
 pub record Partly (t : Table) (a : Float) (row : ℕ) (mem next : List ℕ) : Type 0 where

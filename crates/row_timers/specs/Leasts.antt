@@ -1,13 +1,13 @@
 -- The least of all rows' own timers, taken from the front. Assumes nothing.
 use Prim.Native.Nat.{ℕ, zero, suc, _+_, _-_, _≤_, _<_}
 use mathlib.Core.Path.{_≡_, refl, sym, ap, _∙_}
-use mathlib.Core.Bool.{true, false, false≢true}
+use mathlib.Core.Bool.{Bool, true, false, false≢true}
 use mathlib.Core.List.{List, map, map-map}
 use native.Mathlib.Omega.{arith}
 use native.Mathlib.Nat.{sub-zero}
 use lib.ListN.{length}
 use lib.Dec.{T}
-use lib.Ieee.{Float}
+use lib.Ieee.{Float, binary64, ofBits, lt}
 use Rattle.times.specs.Time.{never, isTimer, leastOf}
 use Rattle.times.specs.Laws as law
 use Rattle.rules.specs.Base.{from}
@@ -15,10 +15,11 @@ use Rattle.rules.specs.Table.{Kind, processor, batcher, stopwatch, coupled, Tab
 use Rattle.rules.specs.Step.{least, leastTimer}
 use Rattle.rules.specs.Least.{ownTimer, least-is, fitted-fits}
 use Rattle.rules.specs.Depth.{passed-again}
+use Rattle.memory.specs.Words.{timerIn}
 use Rattle.memory.specs.View.{stateIn}
 use Rattle.lookup.specs.Inside.{Inside, tableIn, postedIn}
 use Rattle.views.specs.World.{beginOf, stateOf, statesIn, Ready}
-use Rattle.views.specs.Timers.{own-timer}
+use Rattle.views.specs.Timers.{own-here, own-timer}
 
 -- ---- a timer that never runs out changes no least
 last-never : (x : Float) → T (isTimer x) → leastOf x never ≡ x
@@ -26,6 +27,15 @@ last-never x t = sym (law.least-unique x never x t law.never-timer t (law.timers
 
 first-never : (x : Float) → T (isTimer x) → leastOf never x ≡ x
 first-never x t = law.least-swaps never x law.never-timer t ∙ last-never x t
+
+-- the first stays the least where the second is not below it, and gives way where it is
+first-stays : (x y : Float) → lt y x ≡ false → leastOf x y ≡ x
+unfolding leastOf
+first-stays x y above = rw above
+
+pub second-wins : (x y : Float) → lt y x ≡ true → leastOf x y ≡ y
+unfolding leastOf
+second-wins x y below = rw below
 
 -- a Coupled has none of its own
 own-never : (k : Kind) (b : ℕ) (mem : List ℕ) (i : ℕ) → isCoupled k ≡ true → ownTimer (stateIn k b mem i) ≡ never
@@ -67,6 +77,14 @@ module _ (t : Table) (mem : List ℕ) (ready : Ready t mem) (end : ℕ) (whole :
       sym (first-never (leastFrom t mem (row + 1) end) (from-timer row l))
       ∙ ap (λ (x : Float). leastOf x (leastFrom t mem (row + 1) end)) (sym (own-never (kindAt t row) (beginOf t row) mem row c))
       ∙ sym (from-next row l)
+
+  -- a row whose timer is not below the least so far leaves it, whatever its kind
+  pub join-over : (row : ℕ) → row < end → (x : Float) → T (isTimer x) → lt (ofBits binary64 (timerIn mem row)) x ≡ false → leastOf x (leastFrom t mem (row + 1) end) ≡ leastOf x (leastFrom t mem row end)
+  join-over row l x h above = by (isCoupled (kindAt t row)) refl
+    where
+      by : (b : Bool) → isCoupled (kindAt t row) ≡ b → leastOf x (leastFrom t mem (row + 1) end) ≡ leastOf x (leastFrom t mem row end)
+      by true c = ap (leastOf x) (join-coupled row l c)
+      by false c = ap (λ (z : Float). leastOf z (leastFrom t mem (row + 1) end)) (sym (ap (leastOf x) (own-here (kindAt t row) (beginOf t row) mem row c) ∙ first-stays x (ofBits binary64 (timerIn mem row)) above)) ∙ join-atom row l x h
 
   -- none are left
   pub join-end : (row : ℕ) → end ≤ row → (x : Float) → T (isTimer x) → leastOf x (leastFrom t mem row end) ≡ x

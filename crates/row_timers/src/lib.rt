@@ -1,6 +1,6 @@
 // The timers of all rows: the least of them, and what an advance leaves of them (01, "The step (000)", 2 and 3).
 ghost use mathlib.Core.Path.{_≡_};
-ghost use Prim.Native.Nat.{_<_};
+ghost use Prim.Native.Nat.{_-_, _<_};
 ghost use lib.ListN.{length};
 ghost use lib.Dec.{T};
 ghost use Rattle.times.specs.Time.{isTime, isTimer};
@@ -8,10 +8,11 @@ ghost use Rattle.rules.specs.Step.{leastTimer};
 ghost use Rattle.rules.specs.Least.{ownTimer, Below};
 ghost use Rattle.lookup.specs.Inside.{Inside, tableIn};
 ghost use Rattle.views.specs.World.{stateOf, statesIn, Laid, Ready, Frame};
-ghost use Rattle.row_timers.specs.Passing.{Passed};
+ghost use Rattle.sweeps.specs.Skips.{stopFrom};
+ghost use Rattle.row_timers.specs.Passing.{atZero, Passed};
 ghost use Rattle.row_timers.specs.Aging.{Aged};
 
-// The least timer. A Coupled's is that of a component, so the rows' own timers do.
+// The least timer. A Coupled's is that of a component, so the rows' own timers do. Few are below the least so far, so a row's kind is asked for last.
 pub fn least_timer(state: &[u64], mem: &[u64]) -> f64
     requires { ⌜ Inside (now state) × Ready (tableIn (now state)) (now mem) ⌝ }
     ensures { λ r. ⌜ r ≡ leastTimer (tableIn (now (state .entry))) (statesIn (tableIn (now (state .entry))) (now (mem .entry))) ⌝ }
@@ -20,12 +21,31 @@ pub fn least_timer(state: &[u64], mem: &[u64]) -> f64
     let mut least = times::never();
     let mut row = 0;
     while row < end {
-        if !lookup::is_coupled(state, row) {
-            least = times::least(least, memory::timer_at(mem, row));
+        let timer = memory::timer_at(mem, row);
+        if timer < least {
+            if !lookup::is_coupled(state, row) {
+                least = timer;
+            }
         }
         row += 1;
     }
     least
+}
+
+// The first row from `from` on whose timer's word is that of 0, as a Coupled's is; the row after the last if there is none.
+pub fn next_at_zero(state: &[u64], mem: &[u64], from: usize) -> usize
+    requires { ⌜ Inside (now state) × Ready (tableIn (now state)) (now mem) ⌝ }
+    ensures { λ r. ⌜ r ≡ stopFrom (atZero (now (mem .entry))) from (length (tableIn (now (state .entry)) .rows) - from) ⌝ }
+{
+    let end = lookup::row_count(state);
+    let mut row = from;
+    while row < end {
+        if memory::timer_at(mem, row) == 0.0 {
+            return row;
+        }
+        row += 1;
+    }
+    row
 }
 
 // Every timer less the advance. An advance of 0 leaves them as they are.
@@ -45,15 +65,18 @@ pub fn pass(state: &[u64], mem: &mut [u64], advance: f64)
     }
 }
 
-// One row's timer less the advance. A Coupled has none of its own.
+// One row's timer less the advance: one that never runs out stays, and a Coupled has none of its own.
 fn pass_row(state: &[u64], mem: &mut [u64], row: usize, advance: f64)
-    requires { ⌜ Inside (now state) × Laid (tableIn (now state)) (now mem) × (row < length (tableIn (now state) .rows)) × T (isTimer (ownTimer (stateOf (tableIn (now state)) (now mem) row))) ⌝ }
+    requires { ⌜ Inside (now state) × Laid (tableIn (now state)) (now mem) × (row < length (tableIn (now state) .rows)) × T (isTimer (ownTimer (stateOf (tableIn (now state)) (now mem) row))) × T (isTime advance) ⌝ }
     ensures { λ _. ⌜ Aged (tableIn (now (state .entry))) advance row (now (mem .entry)) (now (mem .exit)) ⌝ }
 {
+    let timer = memory::timer_at(mem, row);
+    if timer == times::never() {
+        return;
+    }
     if lookup::is_coupled(state, row) {
         return;
     }
-    let timer = times::after(memory::timer_at(mem, row), advance);
-    let bits = times::bits_of(timer);
+    let bits = times::bits_of(times::after(timer, advance));
     memory::set_timer(mem, row, bits);
 }

@@ -1,27 +1,35 @@
 -- The parts of a step in place: a turn of a model without parent, what an advance of 0 leaves, and the parts put together. Assumes nothing.
-use Prim.Native.Nat.{ℕ, _+_, _*_, _≤_, _<_}
-use mathlib.Core.Path.{_≡_, sym, ap, subst, _∙_}
+use Prim.Native.Nat.{ℕ, _+_, _*_, _-_, _≤_, _<_}
+use mathlib.Core.Path.{_≡_, refl, sym, ap, _∙_}
 use mathlib.Core.Logic.{inl}
-use mathlib.Core.Bool.{Bool, true, false}
+use mathlib.Core.Bool.{Bool, true, false, false≢true}
 use mathlib.Core.List.{List}
 use native.Mathlib.Omega.{arith}
 use lib.ListN.{length}
-use lib.Ieee.{Float}
+use lib.Dec.{eqb→eq}
+use lib.Ieee.{Float, ofBits, eq}
 use Rattle.rules.specs.declared.Refusal.{Refusal}
 use Rattle.rules.specs.declared.Message.{Message}
-use Rattle.rules.specs.Base.{Outcome, refused, done, _>>=_, each, those, from}
+use Rattle.rules.specs.Base.{Outcome, refused, done, _>>=_, each, from}
 use Rattle.rules.specs.Sizes.{mostActive}
-use Rattle.rules.specs.Table.{Table, rowAt, isParentless}
+use Rattle.rules.specs.Table.{Kind, processor, batcher, stopwatch, coupled, Table, kindAt, rowAt, isCoupled, isParentless}
 use Rattle.rules.specs.Step.{Happening, World, levels, due, internal, after, send, rootTurn}
 use Rattle.memory.specs.declared.Put.{Put}
 use Rattle.memory.specs.declared.Put.the-variants as put
-use Rattle.memory.specs.Words.{wordAt, Only}
-use Rattle.memory.specs.View.{outsIn}
-use Rattle.views.specs.World.{endOf, statesIn, worldIn, Ready, Frame, Puts}
-use Rattle.views.specs.Frames.{far-world, far-ready}
+use Rattle.rules.specs.Ends.{nil, _&_}
+use Rattle.rules.specs.Depth.{Fine}
+use Rattle.words.specs.SearchLaws.{search-hit}
+use Rattle.memory.specs.Words.{wordAt, timerIn, Only}
+use Rattle.memory.specs.View.{outsIn, WordsFit}
+use Rattle.views.specs.World.{beginOf, endOf, statesIn, worldIn, Ready, Frame, Puts}
+use Rattle.views.specs.Frames.{far-world, far-ready, frame-same}
 use Rattle.views.specs.Messages.{messagesIn, Joins, Joined, Sent}
 use Rattle.views.specs.MessageLaws.{messages-same}
-use Rattle.stepping.specs.Simulating.{turns-of}
+use Rattle.model_events.specs.DueHere.{due-here}
+use Rattle.sweeps.specs.Sweeps.{onward-skip}
+use Rattle.sweeps.specs.Adding.{Adding, adding-on}
+use Rattle.sweeps.specs.Skips.{stopFrom, stop-over}
+use Rattle.row_timers.specs.Passing.{atZero}
 
 -- ---- a model without parent that is not due has no turn; one that is has its event, and what it puts out is sent
 module _ (t : Table) (services : List Float) (clock : Float) (i active count : ℕ) (mem : List ℕ) where
@@ -72,6 +80,39 @@ only-frame t lo hi mem after past only = record { long = only .long; low = λ p 
 abbrev pub isRoot : Table → ℕ → Bool
 isRoot t j = isParentless (rowAt t j .parent)
 
-pub joined-all : (t : Table) (services : List Float) (clock : Float) (active end : ℕ) → end ≡ length (t .rows) → (r : Put) (mem after : List ℕ)
-    → Joined r (messagesIn active) mostActive 0 (λ x. each (rootTurn t services clock) (those (isRoot t) (from 0 end)) x) t mem after → Joined r (messagesIn active) mostActive 0 (turns-of t services clock) t mem after
-joined-all t services clock active end whole r mem after j = subst (λ (n : ℕ). Joined r (messagesIn active) mostActive 0 (λ x. each (rootTurn t services clock) (those (isRoot t) (from 0 n)) x) t mem after) whole j
+-- ---- rows whose timer's word is not 0 are passed over: an atom's timer is not 0, and no Coupled is among them
+zero-coupled : (k : Kind) (b : ℕ) (mem : List ℕ) (i : ℕ) → WordsFit k b mem i → isCoupled k ≡ true → atZero mem i ≡ true
+unfolding ofBits eq
+zero-coupled (processor p) b mem i fit e = absurd (false≢true e)
+zero-coupled (batcher m) b mem i fit e = absurd (false≢true e)
+zero-coupled (stopwatch w) b mem i fit e = absurd (false≢true e)
+zero-coupled coupled b mem i (phase & none & held & unused & nil) e = rw (eqb→eq (timerIn mem i) 0 none) refl
+
+module _ (t : Table) (ok : Fine t) (services : List Float) (clock : Float) (active lo hi count : ℕ) (mem₀ mem : List ℕ) where
+  abbrev Down : ℕ → Type 0
+  Down row = Adding t (messagesIn active) mostActive (rootTurn t services clock) (isRoot t) lo hi mem₀ 0 (length (t .rows)) row mem count
+
+  not-due : (i : ℕ) → i < length (t .rows) → Ready t mem → atZero mem i ≡ false → due t levels (statesIn t mem) i ≡ false
+  not-due i inside ready later = by (isCoupled (kindAt t i)) refl
+    where
+      by : (b : Bool) → isCoupled (kindAt t i) ≡ b → due t levels (statesIn t mem) i ≡ false
+      by true e = absurd (false≢true (sym later ∙ zero-coupled (kindAt t i) (beginOf t i) mem i (ready .laid .words i inside) e))
+      by false e = due-here t ok mem ready i inside levels (omega arith) e ∙ later
+
+  pass-turn : (row : ℕ) → row < length (t .rows) → atZero mem row ≡ false → Down row → Down (row + 1)
+  pass-turn row l later g = by (isRoot t row) refl
+    where
+      by : (b : Bool) → isRoot t row ≡ b → Down (row + 1)
+      by true e =
+          adding-on t (messagesIn active) mostActive (rootTurn t services clock) (isRoot t) lo hi mem₀ 0 (length (t .rows)) row mem count g row count mem (search-hit (isRoot t) row (length (t .rows)) l e)
+          (no-root-turn t services clock row active count mem (g .ready) (g .few) (not-due row l (g .ready) later))
+          (frame-same t lo hi mem)
+      by false e = record {
+        ready = g .ready;
+        few = g .few;
+        frame = g .frame;
+        onward = onward-skip (rootTurn t services clock) (isRoot t) row (length (t .rows)) _ _ (g .onward) l e;
+      }
+
+  pub pass-turns : (row : ℕ) → row ≤ length (t .rows) → Down row → Down (stopFrom (atZero mem) row (length (t .rows) - row))
+  pass-turns row l g = stop-over (atZero mem) Down (length (t .rows)) pass-turn row l g

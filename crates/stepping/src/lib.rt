@@ -74,7 +74,7 @@ fn root_turn(
     }
 }
 
-// Each model without parent in row order.
+// Each model without parent in row order. A row whose timer's word is not 0 is not due.
 fn root_turns(state: &[u64], services: &[f64], mem: &mut [u64], clock: f64, active: usize) -> Put
     requires { ⌜ Scene (now state) (now mem) clock × (endOf (tableIn (now state)) ≤ active) × (active + 2816 ≤ length (now mem)) ⌝ }
     ensures joins { λ r. ⌜ Joined r (messagesIn active) 256 0 (turns-of (tableIn (now (state .entry))) (now (services .entry)) clock) (tableIn (now (state .entry))) (now (mem .entry)) (now (mem .exit)) ⌝ }
@@ -84,7 +84,8 @@ fn root_turns(state: &[u64], services: &[f64], mem: &mut [u64], clock: f64, acti
     let mut count = 0;
     let mut from = 0;
     while from < end {
-        match lookup::next_parentless(state, from) {
+        let ripe = row_timers::next_at_zero(state, mem, from);
+        match lookup::next_parentless(state, ripe) {
             Found::Nothing => return Put::Out(count),
             Found::At(row) => {
                 match root_turn(state, services, mem, clock, row, active, count) {

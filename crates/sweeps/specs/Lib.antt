@@ -3,3 +3,4 @@ pub mod Sweeps
 pub mod Loops
 pub mod Adding
 pub mod Appends
+pub mod Skips

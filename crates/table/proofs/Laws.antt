@@ -1,21 +1,21 @@
 -- The bounds of a cell, tests on ports, and lists of tests, said in the code's terms. Assumes nothing.
 use Prim.Native.Nat.{ℕ, zero, suc, _+_, _-_, _*_, _/_, _≤_, _<_, _^_}
 use mathlib.Core.Path.{_≡_, refl, sym, ap, _∙_}
-use mathlib.Core.Bool.{Bool, true, false, not, _&&_}
+use mathlib.Core.Bool.{Bool, true, false, not, _&&_, false≢true}
 use mathlib.Core.List.{List, [], _∷_}
 use mathlib.Core.Option.{Option, none, some}
-use native.Mathlib.Nat.{sub-zero, suc-mul, div-mul-le-self, mul-le-mul-right, div-lt-iff-lt-mul, le-div-iff-mul-le}
+use native.Mathlib.Nat.{sub-zero, suc-mul, div-mul-le-self, mul-le-mul-right, div-lt-iff-lt-mul}
 use native.Mathlib.Numerals.{add-one}
 use native.Mathlib.Omega.{arith}
-use native.Mathlib.Decide.{decLe}
-use borrow.Author.Tests.{lt-ltb, le-ltb, eq-eqb, ne-eqb}
-use lib.Dec.{ltb, eqb}
-use lib.ListN.{length, List·getD-eq-default}
+use borrow.Author.Tests.{lt-ltb, le-ltb, ne-eqb}
+use lib.Dec.{eqb}
+use lib.ListN.{length, take, drop, length-drop, drop-of-length-le}
+use lib.Seq.{take-all, drop-length}
 use lib.Ieee.{Float, binary64, ofBits}
 use lib.Ieee.Bits.{is-true}
 use mir.Syntax.{w64}
 use mir.Val.{Fits}
-use Rattle.rules.specs.Sizes.{isPort, isWord}
+use Rattle.rules.specs.Sizes.{isPort, isWord, omittedCapacity}
 use Rattle.rules.specs.declared.Metric.{Metric}
 use Rattle.rules.specs.declared.Metric.the-variants.{Minimum, Maximum}
 use Rattle.times.specs.Time.{isTime}
@@ -23,7 +23,7 @@ use Rattle.times.specs.Answers.{timeOfBits, time-says}
 use Rattle.times.specs.declared.TimeOf.the-variants.{Time}
 use Rattle.rules.specs.Base.{if_then_else_, hold, some-of, from}
 use Rattle.rules.specs.Table as Table
-use Rattle.rules.specs.Layout.{cell, isGiven, metricIn}
+use Rattle.rules.specs.Layout.{cell, isGiven, capacityIn, metricIn, kindIn}
 use Rattle.words.specs.declared.Found.{Found}
 use Rattle.words.specs.declared.Cell.{Cell}
 use Rattle.words.specs.declared.Key.{Key}
@@ -35,17 +35,22 @@ use Rattle.table.specs.declared.Kind.the-variants.{Broken}
 use Rattle.table.specs.declared.Parent.{Parent}
 use Rattle.table.specs.Readers.{rowOf, named, kindOf, parentOf}
 use Rattle.table.specs.Rows.{countOf, row-cell, row-whole, row-begins, rows-fit}
-use Rattle.table.specs.Agrees.{fits-length}
-use Rattle.table.specs.Judging.{stopwatchOf, settingIn, optionOf, rowIn, earlierIn, cellsFit, hasRow, rowFits, widthOf}
+use Rattle.table.specs.Agrees.{one, fits-length}
+use Rattle.table.specs.Judging.{stopwatchOf, settingIn, isKind, optionOf, rowIn, earlierIn, cellsFit, hasRow, rowFits, widthOf}
 
--- ---- a cell's place
+-- ---- a row's place
 pub start-within : (n width row : ℕ) → row ≤ n / width → row * width ≤ n
 start-within n width row h = omega (arith, mul-le-mul-right width h, div-mul-le-self n width)
 
-pub cell-past : (width : ℕ) (words : List ℕ) (row at : ℕ) → at < width → length words / width < row → cell (rowOf width words row) at ≡ 0
-cell-past width words row at inside past =
-    let w : 0 < width = omega arith in
-    row-cell width words row at inside ∙ List·getD-eq-default words 0 (omega (arith, div-lt-iff-lt-mul w .0 past))
+-- the last words are a row cut short
+pub cut-short : (start width : ℕ) (words : List ℕ) → length words - start < width → take (length words - start) (drop start words) ≡ take width (drop start words)
+cut-short start width words h =
+    let l = length-drop start words in
+    take-all (length words - start) (drop start words) (omega arith) ∙ sym (take-all width (drop start words) (omega arith))
+
+-- past the last row: no words, as at their end
+pub row-past : (width : ℕ) → 0 < width → (words : List ℕ) (row : ℕ) → length words / width < row → rowOf width words row ≡ take width (drop (length words) words)
+row-past width wide words row past = ap (take width) (drop-of-length-le words {i = row * width} (omega (arith, div-lt-iff-lt-mul wide .0 past)) ∙ sym (drop-length words))
 
 -- ---- ports
 pub port-fits : (n : ℕ) → n ≤ 65535 → isPort n ≡ true
@@ -53,14 +58,6 @@ port-fits n h = lt-ltb n 65536 (omega arith)
 
 pub port-beyond : (n : ℕ) → 65535 < n → isPort n ≡ false
 port-beyond n h = le-ltb n 65536 (omega arith)
-
--- ---- a whole row
-pub whole-test : (width : ℕ) → 0 < width → (words : List ℕ) (row : ℕ) → ltb row (length words / width) ≡ eqb (length (rowOf width words row)) width
-whole-test width wide words row =
-    elim (decLe (suc row) (length words / width)) [
-      | yes l ↦ lt-ltb _ _ l ∙ sym (eq-eqb _ _ (row-whole width wide words row .1 (le-div-iff-mul-le wide .0 l)))
-      | no l ↦ le-ltb row (length words / width) (omega arith) ∙ sym (ne-eqb _ _ (λ e. l (le-div-iff-mul-le wide .1 (row-whole width wide words row .0 e))))
-    ]
 
 pub word-fits : (n : ℕ) → Fits w64 n → isWord n ≡ true
 word-fits n h = lt-ltb n (2 ^ 64) (h .fits)
@@ -80,6 +77,27 @@ module _ (row : List ℕ) (at end : ℕ) where
   pub cells-next : {w : ℕ} → at < end → w ≡ cell row at → w ≤ 65535 → cellsFit row at end ≡ cellsFit row (at + 1) end
   unfolding cellsFit
   cells-next h e fits = let m : end - at ≡ suc (end - suc at) = omega arith in rw (m, port-fits (cell row at) (rw e at fits), add-one)
+
+-- ---- a Processor whose ports fit
+module _ (row : List ℕ) (ports : cellsFit row 4 8 ≡ true) (setting : Fits w64 (cell row 8)) where
+  capacity-fits : isWord (capacityIn row) ≡ true
+  capacity-fits = by (isGiven 2 row)
+    where
+      by : (given : Bool) → isWord (if given then cell row 8 else omittedCapacity) ≡ true
+      by true = word-fits (cell row 8) setting
+      by false = refl
+
+  both-ports : (p q r s : Bool) → hold (p ∷ q ∷ r ∷ s ∷ []) ≡ true → (p ≡ true) × (s ≡ true)
+  both-ports true true true s h = (refl, sym (one s) ∙ h)
+  both-ports true true false s h = absurd (false≢true h)
+  both-ports true false r s h = absurd (false≢true h)
+  both-ports false q r s h = absurd (false≢true h)
+
+  pub processor-fits : cell row 1 ≡ 1 → isKind (kindOf (kindIn row)) ≡ true
+  unfolding cellsFit
+  processor-fits e =
+      let p = both-ports (isPort (cell row 4)) (isPort (cell row 5)) (isPort (cell row 6)) (isPort (cell row 7)) ports in
+      rw (e, p .0, p .1, capacity-fits)
 
 -- ---- a stopwatch whose ports fit: what is left is whether they differ
 pub ports-left : (t : Bool) {a b c d : ℕ} (m : Metric) → a ≤ 65535 → b ≤ 65535 → c ≤ 65535 → d ≤ 65535 → hold (not (eqb a b) ∷ not (eqb a c) ∷ not (eqb b c) ∷ []) ≡ t
@@ -179,3 +197,7 @@ module _ (part : Part) (slice : List ℕ) {width start : ℕ} (row : ℕ) (w : w
   -- no row is left
   pub ended : length slice ≤ start → countOf (widthOf part) slice ≤ row
   ended h = rows-fit (widthOf part) (width-wide part .0) slice row .1 (rw (← w, ← s) h)
+
+  -- its words, read from there
+  pub row-here : take width (drop start slice) ≡ rowOf (widthOf part) slice row
+  row-here = rw (s, w)

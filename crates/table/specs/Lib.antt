@@ -3,6 +3,7 @@ pub mod Readers
 pub mod Verdicts
 pub mod Rows
 pub mod Judging
+pub mod Rising
 pub mod Earlier
 pub mod Agrees
 pub mod Judged

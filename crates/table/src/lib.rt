@@ -8,15 +8,17 @@ use words::Cell;
 use words::Found;
 use words::Key;
 ghost use mathlib.Core.Path.{_≡_};
+ghost use mathlib.Core.Bool.{true, not};
 ghost use mathlib.Core.Option.{some};
 ghost use Prim.Native.Nat.{_/_, _≤_, _<_};
-ghost use lib.ListN.{length};
+ghost use lib.ListN.{length, take, drop};
 ghost use lib.Dec.{eqb};
 ghost use Rattle.rules.specs.Layout as Layout;
 ghost use Rattle.rules.specs.Intake as Intake;
 ghost use Rattle.table.specs.Readers.{idIn, kindOf, parentOf, depthIn, rowOf};
 ghost use Rattle.table.specs.Verdicts.{verdictOf};
 ghost use Rattle.table.specs.Judging as Judging;
+ghost use Rattle.table.specs.Rising.{AtMost};
 
 // What intake says of a table, with the first bad row, counted from 0 in its own slice.
 pub enum Verdict {
@@ -48,33 +50,42 @@ enum Part {
     Couplings,
 }
 
-// A word of a row; 0 past the last.
-fn cell(slice: &[u64], width: usize, row: usize, at: usize) -> u64
-    requires { ⌜ (at < width) × (width ≤ 10) ⌝ }
-    ensures { λ r. ⌜ r ≡ Layout.cell (rowOf width (now (slice .entry)) row) at ⌝ }
+// The words of the row that starts at a place: fewer where it is cut short.
+fn row_from(slice: &[u64], start: usize, width: usize) -> &[u64]
+    requires { ⌜ start ≤ length (now slice) ⌝ }
+    ensures { λ r. ⌜ now r ≡ take width (drop start (now (slice .entry))) ⌝ }
+{
+    if slice.len() - start < width {
+        return &slice[start..];
+    }
+    &slice[start..start + width]
+}
+
+// The words of a row; none past the last.
+fn row_of(slice: &[u64], width: usize, row: usize) -> &[u64]
+    requires { ⌜ 0 < width ⌝ }
+    ensures { λ r. ⌜ now r ≡ rowOf width (now (slice .entry)) row ⌝ }
 {
     if slice.len() / width < row {
-        return 0;
+        return row_from(slice, slice.len(), width);
     }
-    words::word_at(slice, row * width + at)
+    row_from(slice, row * width, width)
 }
 
 // Whether a row has all of its words.
-fn is_whole(slice: &[u64], width: usize, row: usize) -> bool
-    requires { ⌜ 0 < width ⌝ }
-    ensures { λ r. ⌜ r ≡ eqb (length (rowOf width (now (slice .entry)) row)) width ⌝ }
+fn is_whole(cells: &[u64], width: usize) -> bool
+    ensures { λ r. ⌜ r ≡ eqb (length (now (cells .entry))) width ⌝ }
 {
-    row < slice.len() / width
+    cells.len() == width
 }
 
 // Whether the cells from `first` to before `end` are ids or ports.
-fn cells_fit(slice: &[u64], width: usize, row: usize, first: usize, end: usize) -> bool
-    requires { ⌜ (end ≤ width) × (width ≤ 10) ⌝ }
-    ensures { λ r. ⌜ r ≡ Judging.cellsFit (rowOf width (now (slice .entry)) row) first end ⌝ }
+fn cells_fit(cells: &[u64], first: usize, end: usize) -> bool
+    ensures { λ r. ⌜ r ≡ Judging.cellsFit (now (cells .entry)) first end ⌝ }
 {
     let mut at = first;
     while at < end {
-        if 0xFFFF < cell(slice, width, row, at) {
+        if 0xFFFF < words::word_at(cells, at) {
             return false;
         }
         at += 1;
@@ -83,20 +94,20 @@ fn cells_fit(slice: &[u64], width: usize, row: usize, first: usize, end: usize) 
 }
 
 // Whether an optional field is given: 1 parent, 2 queue_capacity, 4 metric.
-fn is_given(models: &[u64], row: usize, field: u64) -> bool
+fn is_given(cells: &[u64], field: u64) -> bool
     requires { ⌜ 0 < field ⌝ }
-    ensures { λ r. ⌜ r ≡ Layout.isGiven field (rowOf Layout.modelWidth (now (models .entry)) row) ⌝ }
+    ensures { λ r. ⌜ r ≡ Layout.isGiven field (now (cells .entry)) ⌝ }
 {
-    cell(models, 10, row, 2) / field % 2 == 1
+    words::word_at(cells, 2) / field % 2 == 1
 }
 
 // The setting of a row, or what it is where it is omitted.
-fn setting_at(models: &[u64], row: usize, field: u64, omitted: u64) -> u64
+fn setting_in(cells: &[u64], field: u64, omitted: u64) -> u64
     requires { ⌜ 0 < field ⌝ }
-    ensures { λ r. ⌜ r ≡ Judging.settingIn field omitted (rowOf Layout.modelWidth (now (models .entry)) row) ⌝ }
+    ensures { λ r. ⌜ r ≡ Judging.settingIn field omitted (now (cells .entry)) ⌝ }
 {
-    if is_given(models, row, field) {
-        cell(models, 10, row, 8)
+    if is_given(cells, field) {
+        words::word_at(cells, 8)
     } else {
         omitted
     }
@@ -177,14 +188,14 @@ fn stopwatch_of(start: u64, stop: u64, ask: u64, output: u64, metric: Metric) ->
     })
 }
 
-fn stopwatch_at(models: &[u64], row: usize) -> Kind
-    ensures { λ r. ⌜ r ≡ kindOf (Judging.stopwatchAt (rowOf Layout.modelWidth (now (models .entry)) row)) ⌝ }
+fn stopwatch_in(cells: &[u64]) -> Kind
+    ensures { λ r. ⌜ r ≡ kindOf (Judging.stopwatchAt (now (cells .entry))) ⌝ }
 {
-    let metric = setting_at(models, row, 4, 0);
-    let start = cell(models, 10, row, 4);
-    let stop = cell(models, 10, row, 5);
-    let ask = cell(models, 10, row, 6);
-    let output = cell(models, 10, row, 7);
+    let metric = setting_in(cells, 4, 0);
+    let start = words::word_at(cells, 4);
+    let stop = words::word_at(cells, 5);
+    let ask = words::word_at(cells, 6);
+    let output = words::word_at(cells, 7);
     if metric == 0 {
         return stopwatch_of(start, stop, ask, output, Metric::Minimum);
     }
@@ -194,30 +205,24 @@ fn stopwatch_at(models: &[u64], row: usize) -> Kind
     Kind::Broken
 }
 
-// The id in a model row; 0 past the last.
-pub fn id_at(models: &[u64], row: usize) -> u64
-    ensures { λ r. ⌜ r ≡ idIn (now (models .entry)) row ⌝ }
+// The kind that a row's words say.
+fn kind_in(cells: &[u64]) -> Kind
+    ensures { λ r. ⌜ r ≡ kindOf (Layout.kindIn (now (cells .entry))) ⌝ }
 {
-    cell(models, 10, row, 0)
-}
-
-pub fn kind_at(models: &[u64], row: usize) -> Kind
-    ensures { λ r. ⌜ r ≡ kindOf (Layout.kindIn (rowOf Layout.modelWidth (now (models .entry)) row)) ⌝ }
-{
-    let kind = cell(models, 10, row, 1);
-    let input = cell(models, 10, row, 4);
-    let output = cell(models, 10, row, 7);
+    let kind = words::word_at(cells, 1);
+    let input = words::word_at(cells, 4);
+    let output = words::word_at(cells, 7);
     if kind == 1 {
-        let capacity = setting_at(models, row, 2, 0xFFFF_FFFF_FFFF_FFFF);
+        let capacity = setting_in(cells, 2, 0xFFFF_FFFF_FFFF_FFFF);
         return processor_of(input, output, capacity);
     }
     if kind == 2 {
-        let size = cell(models, 10, row, 8);
-        let bits = cell(models, 10, row, 9);
+        let size = words::word_at(cells, 8);
+        let bits = words::word_at(cells, 9);
         return batcher_of(input, output, size, bits);
     }
     if kind == 3 {
-        return stopwatch_at(models, row);
+        return stopwatch_in(cells);
     }
     if kind == 4 {
         return Kind::Coupled;
@@ -225,14 +230,33 @@ pub fn kind_at(models: &[u64], row: usize) -> Kind
     Kind::Broken
 }
 
-pub fn parent_at(models: &[u64], row: usize) -> Parent
-    ensures { λ r. ⌜ r ≡ parentOf (Layout.parentIn (rowOf Layout.modelWidth (now (models .entry)) row)) ⌝ }
+fn parent_in(cells: &[u64]) -> Parent
+    ensures { λ r. ⌜ r ≡ parentOf (Layout.parentIn (now (cells .entry))) ⌝ }
 {
-    if is_given(models, row, 1) {
-        Parent::Of(cell(models, 10, row, 3))
+    if is_given(cells, 1) {
+        Parent::Of(words::word_at(cells, 3))
     } else {
         Parent::Nobody
     }
+}
+
+// The id in a model row; 0 past the last.
+pub fn id_at(models: &[u64], row: usize) -> u64
+    ensures { λ r. ⌜ r ≡ idIn (now (models .entry)) row ⌝ }
+{
+    words::word_at(row_of(models, 10, row), 0)
+}
+
+pub fn kind_at(models: &[u64], row: usize) -> Kind
+    ensures { λ r. ⌜ r ≡ kindOf (Layout.kindIn (rowOf Layout.modelWidth (now (models .entry)) row)) ⌝ }
+{
+    kind_in(row_of(models, 10, row))
+}
+
+pub fn parent_at(models: &[u64], row: usize) -> Parent
+    ensures { λ r. ⌜ r ≡ parentOf (Layout.parentIn (rowOf Layout.modelWidth (now (models .entry)) row)) ⌝ }
+{
+    parent_in(row_of(models, 10, row))
 }
 
 // The depth of a row, by the rows before it: 1 without parent.
@@ -279,83 +303,110 @@ fn has_row(models: &[u64], rows: usize, id: u64, at: usize, value: u64) -> bool
     }
 }
 
-// What a model row keeps by itself: it is whole, every port fits, used or not, and so do its fields.
-fn row_fits(models: &[u64], row: usize) -> bool
-    ensures { λ r. ⌜ r ≡ Judging.rowFits (rowOf Layout.modelWidth (now (models .entry)) row) ⌝ }
+// Whether the kind keeps its rules, where the ports fit. A Processor and a Coupled then do: neither is built.
+fn kind_fits(cells: &[u64]) -> bool
+    requires { ⌜ Judging.cellsFit (now cells) 4 8 ≡ true ⌝ }
+    ensures { λ r. ⌜ r ≡ Judging.isKind (kindOf (Layout.kindIn (now (cells .entry)))) ⌝ }
 {
-    if !is_whole(models, 10, row) {
-        return false;
+    let kind = words::word_at(cells, 1);
+    if kind == 1 {
+        return true;
     }
-    if 7 < cell(models, 10, row, 2) {
-        return false;
+    if kind == 4 {
+        return true;
     }
-    if !cells_fit(models, 10, row, 4, 8) {
-        return false;
-    }
-    if let Kind::Broken = kind_at(models, row) {
+    if let Kind::Broken = kind_in(cells) {
         return false;
     }
     true
 }
 
+// What a model row keeps by itself: it is whole, every port fits, used or not, and so do its fields.
+fn row_fits(cells: &[u64]) -> bool
+    ensures { λ r. ⌜ r ≡ Judging.rowFits (now (cells .entry)) ⌝ }
+{
+    if !is_whole(cells, 10) {
+        return false;
+    }
+    if 7 < words::word_at(cells, 2) {
+        return false;
+    }
+    if !cells_fit(cells, 4, 8) {
+        return false;
+    }
+    kind_fits(cells)
+}
+
 // Whether the parent, if there is one, is a Coupled before the row.
-fn parent_fits(models: &[u64], row: usize) -> bool
-    requires { ⌜ row ≤ length (now models) / 10 ⌝ }
+fn parent_fits(models: &[u64], row: usize, cells: &[u64]) -> bool
+    requires { ⌜ (row ≤ length (now models) / 10) × (now cells ≡ rowOf Layout.modelWidth (now models) row) ⌝ }
     ensures { λ r. ⌜ r ≡ Judging.parentJoins (now (models .entry)) row ⌝ }
 {
-    match parent_at(models, row) {
+    match parent_in(cells) {
         Parent::Of(id) => has_row(models, row, id, 1, 4),
         Parent::Nobody => true,
     }
 }
 
+// Whether no row before has the id. Above the greatest of theirs no search is made.
+fn is_new(models: &[u64], row: usize, id: u64, greatest: u64) -> bool
+    requires { ⌜ (row ≤ length (now models) / 10) × AtMost Layout.modelWidth (now models) row greatest ⌝ }
+    ensures { λ r. ⌜ r ≡ not (Judging.hasRow (now (models .entry)) row id 0 id) ⌝ }
+{
+    if greatest < id {
+        return true;
+    }
+    !has_row(models, row, id, 0, id)
+}
+
 // What a model row keeps against the rows before it.
-fn row_joins(models: &[u64], row: usize) -> bool
-    requires { ⌜ row ≤ length (now models) / 10 ⌝ }
+fn row_joins(models: &[u64], row: usize, cells: &[u64], greatest: u64) -> bool
+    requires { ⌜ (row ≤ length (now models) / 10) × (now cells ≡ rowOf Layout.modelWidth (now models) row) × AtMost Layout.modelWidth (now models) row greatest ⌝ }
     ensures { λ r. ⌜ r ≡ Judging.rowJoins (now (models .entry)) row ⌝ }
 {
-    let id = id_at(models, row);
+    let id = words::word_at(cells, 0);
     if 0xFFFF < id {
         return false;
     }
-    if has_row(models, row, id, 0, id) {
+    if !is_new(models, row, id, greatest) {
         return false;
     }
-    if !parent_fits(models, row) {
+    if !parent_fits(models, row, cells) {
         return false;
     }
-    if cell(models, 10, row, 1) == 4 {
+    if words::word_at(cells, 1) == 4 {
         return depth_at(models, row) <= 4;
     }
     true
 }
 
-fn row_keeps(models: &[u64], row: usize) -> bool
+fn row_keeps(models: &[u64], row: usize, cells: &[u64], greatest: u64) -> bool
+    requires { ⌜ (now cells ≡ rowOf Layout.modelWidth (now models) row) × AtMost Layout.modelWidth (now models) row greatest ⌝ }
     ensures { λ r. ⌜ r ≡ Judging.rowKeeps (now (models .entry)) row ⌝ }
 {
-    if !row_fits(models, row) {
+    if !row_fits(cells) {
         return false;
     }
-    row_joins(models, row)
+    row_joins(models, row, cells, greatest)
 }
 
-fn connector_keeps(connectors: &[u64], row: usize) -> bool
-    ensures { λ r. ⌜ r ≡ Judging.connectorKeeps (rowOf Layout.connectorWidth (now (connectors .entry)) row) ⌝ }
+fn connector_keeps(cells: &[u64]) -> bool
+    ensures { λ r. ⌜ r ≡ Judging.connectorKeeps (now (cells .entry)) ⌝ }
 {
-    if !is_whole(connectors, 4, row) {
+    if !is_whole(cells, 4) {
         return false;
     }
-    cells_fit(connectors, 4, row, 0, 4)
+    cells_fit(cells, 0, 4)
 }
 
 // Whether a row has this id and this parent.
-fn is_child(models: &[u64], row: usize, owner: u64, target: u64) -> bool
-    ensures { λ r. ⌜ r ≡ Judging.isChild owner target (Judging.rowIn (now (models .entry)) row) ⌝ }
+fn is_child(cells: &[u64], owner: u64, target: u64) -> bool
+    ensures { λ r. ⌜ r ≡ Judging.isChild owner target (Judging.readRow (now (cells .entry))) ⌝ }
 {
-    if id_at(models, row) != target {
+    if words::word_at(cells, 0) != target {
         return false;
     }
-    match parent_at(models, row) {
+    match parent_in(cells) {
         Parent::Of(id) => id == owner,
         Parent::Nobody => false,
     }
@@ -368,28 +419,29 @@ fn is_component(models: &[u64], owner: u64, target: u64) -> bool
     let mut row = models.len() / 10;
     while 0 < row {
         row -= 1;
-        if is_child(models, row, owner, target) {
+        let start = row * 10;
+        if is_child(&models[start..start + 10], owner, target) {
             return true;
         }
     }
     false
 }
 
-fn coupling_keeps(models: &[u64], couplings: &[u64], row: usize) -> bool
-    ensures { λ r. ⌜ r ≡ Judging.couplingKeeps (Judging.allIn (now (models .entry))) (rowOf Layout.couplingWidth (now (couplings .entry)) row) ⌝ }
+fn coupling_keeps(models: &[u64], cells: &[u64]) -> bool
+    ensures { λ r. ⌜ r ≡ Judging.couplingKeeps (Judging.allIn (now (models .entry))) (now (cells .entry)) ⌝ }
 {
-    if !is_whole(couplings, 6, row) {
+    if !is_whole(cells, 6) {
         return false;
     }
-    if !cells_fit(couplings, 6, row, 0, 1) {
+    if !cells_fit(cells, 0, 1) {
         return false;
     }
-    if !cells_fit(couplings, 6, row, 2, 6) {
+    if !cells_fit(cells, 2, 6) {
         return false;
     }
-    let owner = cell(couplings, 6, row, 0);
-    let kind = cell(couplings, 6, row, 1);
-    let target = cell(couplings, 6, row, 4);
+    let owner = words::word_at(cells, 0);
+    let kind = words::word_at(cells, 1);
+    let target = words::word_at(cells, 4);
     owner_fits(models, owner, kind, target)
 }
 
@@ -412,14 +464,22 @@ fn owner_fits(models: &[u64], owner: u64, kind: u64, target: u64) -> bool
     true
 }
 
-// Whether a row of this part keeps its rules.
-fn keeps(part: Part, models: &[u64], slice: &[u64], row: usize) -> bool
+// Whether a row of this part keeps its rules: its words, and no first cell before it above `greatest`.
+fn keeps(
+    part: Part,
+    models: &[u64],
+    slice: &[u64],
+    row: usize,
+    cells: &[u64],
+    greatest: u64,
+) -> bool
+    requires { ⌜ (now cells ≡ rowOf (Judging.widthOf part) (now slice) row) × AtMost (Judging.widthOf part) (now slice) row greatest ⌝ }
     ensures { λ r. ⌜ r ≡ Judging.keepsIn part (now (models .entry)) (now (slice .entry)) row ⌝ }
 {
     match part {
-        Part::Models => row_keeps(slice, row),
-        Part::Connectors => connector_keeps(slice, row),
-        Part::Couplings => coupling_keeps(models, slice, row),
+        Part::Models => row_keeps(slice, row, cells, greatest),
+        Part::Connectors => connector_keeps(cells),
+        Part::Couplings => coupling_keeps(models, cells),
     }
 }
 
@@ -433,6 +493,12 @@ fn width_of(part: Part) -> usize
     }
 }
 
+fn greater(a: u64, b: u64) -> u64
+    ensures { λ r. ⌜ (a ≤ r) × (b ≤ r) ⌝ }
+{
+    if a < b { b } else { a }
+}
+
 // The first row of this part that does not keep its rules, a row cut short among them.
 fn first_bad(part: Part, models: &[u64], slice: &[u64]) -> Found
     ensures { λ r. ⌜ r ≡ Judging.firstBadIn part (now (models .entry)) (now (slice .entry)) ⌝ }
@@ -440,10 +506,13 @@ fn first_bad(part: Part, models: &[u64], slice: &[u64]) -> Found
     let width = width_of(part);
     let mut start = 0;
     let mut row = 0;
+    let mut greatest = 0;
     while start < slice.len() {
-        if !keeps(part, models, slice, row) {
+        let cells = row_from(slice, start, width);
+        if !keeps(part, models, slice, row, cells, greatest) {
             return Found::At(row);
         }
+        greatest = greater(greatest, words::word_at(cells, 0));
         start += width;
         row += 1;
     }

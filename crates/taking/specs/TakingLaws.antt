@@ -5,7 +5,7 @@ use mathlib.Core.Logic.{inr}
 use mathlib.Core.Bool.{Bool, true, false}
 use mathlib.Core.List.{List, [], _∷_, map}
 use native.Mathlib.Omega.{arith}
-use borrow.Author.Tests.{eq-eqb, ne-eqb}
+use borrow.Author.Tests.{ltb-false, eqb-false, eq-eqb, ne-eqb}
 use lib.ListN.{length}
 use lib.Dec.{T, eqb, ltb→lt}
 use lib.Ieee.{Float, binary64, ofBits}
@@ -19,6 +19,7 @@ use Rattle.rules.specs.Depth.{Deep, parentless-deep}
 use Rattle.rules.specs.Worlds.{MessageFits}
 use Rattle.words.specs.declared.Found.the-variants.{At}
 use Rattle.words.specs.Search.{firstFrom}
+use Rattle.words.specs.SearchLaws.{search-hit}
 use Rattle.selection.specs.Selected.{each-map, sweep-bounds}
 use Rattle.lookup.specs.Inside.{Inside, tableIn}
 use Rattle.lookup.specs.InsideLaws.{place-keeps, fine-in, in-parentless}
@@ -27,8 +28,10 @@ use Rattle.memory.specs.declared.Answer.{Answer}
 use Rattle.memory.specs.declared.Answer.the-variants as answer
 use Rattle.views.specs.World.{endOf, Ready, Frame, Moves, Does}
 use Rattle.views.specs.Messages.{messageIn, messagesIn}
-use Rattle.sweeps.specs.Loops.{all-of, stays, does-as}
-use Rattle.taking.specs.Taking.{takesOne, takesAll, Active}
+use Rattle.views.specs.Frames.{frame-same}
+use Rattle.sweeps.specs.Loops.{all-of, stays, does-as, Going, going-start, going-on, going-skip, going-end}
+use Rattle.sweeps.specs.Skips.{stopFrom, stop-over}
+use Rattle.taking.specs.Taking.{takesOne, takesAll, isFor, isAddressed, Active}
 
 -- ---- the messages stand where no event writes
 module _ (t : Table) (active : ℕ) (before mem : List ℕ) (past : endOf t ≤ active) (frame : Frame t 0 0 before mem) where
@@ -109,6 +112,31 @@ one-by-one t services clock i active count mem after r d = does-as t mem after (
         ∙ each-map (takesOne t services clock i) (messageIn active mem) (from 0 count) w
         ∙ ap (λ (ks : List ℕ). each (takesAt t services clock i active mem) ks w) (sym (those-always 0 count))
 
+-- ---- messages that are for another are passed over, and so are models that none is for
+module _ (t : Table) (services : List Float) (clock : Float) (i active count : ℕ) (mem₀ mem : List ℕ) where
+  -- the row i has taken those before the k-th
+  abbrev pub Along : ℕ → Type 0
+  Along k = Going t (takesAt t services clock i active mem₀) always mem₀ count k mem
+
+  module _ (past : endOf t ≤ active) where
+    pass-one : (k : ℕ) → k < count → isFor active mem (idAt t i) k ≡ false → Along k → Along (k + 1)
+    pass-one k l other g =
+        let stays : messageIn active mem k ≡ messageIn active mem₀ k = message-stays t active mem₀ mem past (g .frame) k in
+        going-on t (takesAt t services clock i active mem₀) always mem₀ count k mem g k mem (search-hit always k count l refl)
+        (not-its t services clock i (messageIn active mem₀ k) mem (g .ready) (eqb-false (messageIn active mem₀ k .«target_id») (idAt t i) (subst (λ (m : Message). eqb (m .«target_id») (idAt t i) ≡ false) stays other)))
+        (frame-same t 0 0 mem)
+
+    pub pass-others : (id k : ℕ) → id ≡ idAt t i → k ≤ count → Along k → Along (stopFrom (isFor active mem id) k (count - k))
+    pass-others id k e l g = subst (λ (n : ℕ). Along (stopFrom (isFor active mem n) k (count - k))) (sym e) (stop-over (isFor active mem (idAt t i)) Along count pass-one k l g)
+
+not-addressed : (t : Table) (services : List Float) (clock : Float) (i active count : ℕ) (mem : List ℕ) → endOf t ≤ active → Ready t mem → isAddressed t active count mem i ≡ false
+    → Moves (takesAll t services clock (messagesIn active count mem) i) t mem mem
+not-addressed t services clock i active count mem past ready none =
+    let visit = takesAt t services clock i active mem in
+    let last = stopFrom (isFor active mem (idAt t i)) 0 (count - 0) in
+    let g = pass-others t services clock i active count mem mem past (idAt t i) 0 refl (omega arith) (going-start t visit always mem count ready) in
+    one-by-one t services clock i active count mem mem answer.Done (going-end t visit always mem count last mem g (ltb-false last count none))
+
 -- ---- a model without parent that a search found is one of the rows, and all levels are before it
 abbrev pub hasNoParent : Table → ℕ → Bool
 hasNoParent t j = isParentless (rowAt t j .parent)
@@ -121,3 +149,24 @@ module _ (state : List ℕ) (inside : Inside state) (start j : ℕ) (found : fir
   taker-deep =
       let free : T (hasNoParent (tableIn state) j) = subst T (sym (taker-bounds .2)) tt in
       in-parentless state inside j (taker-bounds .1) free (Deep (tableIn state) levels) (parentless-deep (tableIn state) (fine-in state inside))
+
+-- the models from `row` on that no message is for are passed over
+module _ (t : Table) (services : List Float) (clock : Float) (active count : ℕ) (mem₀ mem : List ℕ) (past : endOf t ≤ active) where
+  abbrev visits : ℕ → World → Outcome World
+  visits = takesAll t services clock (messagesIn active count mem₀)
+
+  abbrev Down : ℕ → Type 0
+  Down row = Going t visits (hasNoParent t) mem₀ (length (t .rows)) row mem
+
+  pass-row : (row : ℕ) → row < length (t .rows) → isAddressed t active count mem row ≡ false → Down row → Down (row + 1)
+  pass-row row l none g = by (hasNoParent t row) refl
+    where
+      by : (b : Bool) → hasNoParent t row ≡ b → Down (row + 1)
+      by true e =
+          going-on t visits (hasNoParent t) mem₀ (length (t .rows)) row mem g row mem (search-hit (hasNoParent t) row (length (t .rows)) l e)
+          (subst (λ (ms : List Message). Moves (takesAll t services clock ms row) t mem mem) (messages-stay t active mem₀ mem past (g .frame) count) (not-addressed t services clock row active count mem past (g .ready) none))
+          (frame-same t 0 0 mem)
+      by false e = going-skip t visits (hasNoParent t) mem₀ (length (t .rows)) row mem g l e
+
+  pub pass-rows : (row : ℕ) → row ≤ length (t .rows) → Down row → Down (stopFrom (isAddressed t active count mem) row (length (t .rows) - row))
+  pass-rows row l g = stop-over (isAddressed t active count mem) Down (length (t .rows)) pass-row row l g

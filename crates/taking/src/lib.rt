@@ -1,17 +1,51 @@
 // The active messages are taken: by each model without parent in row order, in list order (01, "The step (000)", 1).
 use memory::Answer;
 use words::Found;
-ghost use Prim.Native.Nat.{_+_, _≤_, _<_};
+ghost use mathlib.Core.Path.{_≡_};
+ghost use Prim.Native.Nat.{_+_, _-_, _≤_, _<_};
 ghost use lib.ListN.{length};
 ghost use Rattle.rules.specs.Step as Step;
 ghost use Rattle.rules.specs.Ends.{All};
 ghost use Rattle.rules.specs.Depth.{Deep};
 ghost use Rattle.rules.specs.Worlds.{MessageFits};
-ghost use Rattle.lookup.specs.Inside.{tableIn};
+ghost use Rattle.lookup.specs.Inside.{Inside, tableIn};
 ghost use Rattle.views.specs.World.{endOf, Frame, Does};
 ghost use Rattle.views.specs.Messages.{messageIn, messagesIn};
 ghost use Rattle.model_events.specs.Events.{Scene, Event};
-ghost use Rattle.taking.specs.Taking.{takesOne, takesAll, Active};
+ghost use Rattle.sweeps.specs.Skips.{stopFrom};
+ghost use Rattle.taking.specs.Taking.{takesOne, takesAll, isFor, isAddressed, Active};
+
+// The first message from the k-th on that is for this id; past the last if there is none.
+fn next_for(mem: &[u64], active: usize, k: usize, count: usize, id: u64) -> usize
+    requires { ⌜ (active + 1536 ≤ length (now mem)) × (count ≤ 256) ⌝ }
+    ensures { λ r. ⌜ r ≡ stopFrom (isFor active (now (mem .entry)) id) k (count - k) ⌝ }
+{
+    let mut next = k;
+    while next < count {
+        let at = active + next * 6;
+        if mem[at + 2] == id {
+            return next;
+        }
+        next += 1;
+    }
+    next
+}
+
+// The first row from `from` on that an active message is for; past the last if there is none.
+fn next_addressed(state: &[u64], mem: &[u64], from: usize, active: usize, count: usize) -> usize
+    requires { ⌜ Inside (now state) × (active + 1536 ≤ length (now mem)) × (count ≤ 256) ⌝ }
+    ensures { λ r. ⌜ r ≡ stopFrom (isAddressed (tableIn (now (state .entry))) active count (now (mem .entry))) from (length (tableIn (now (state .entry)) .rows) - from) ⌝ }
+{
+    let end = lookup::row_count(state);
+    let mut row = from;
+    while row < end {
+        if next_for(mem, active, 0, count, lookup::id_of(state, row)) < count {
+            return row;
+        }
+        row += 1;
+    }
+    row
+}
 
 // The `count` active messages stand from `active` on.
 pub fn take_all(
@@ -29,7 +63,8 @@ pub fn take_all(
     let end = lookup::row_count(state);
     let mut from = 0;
     while from < end {
-        match lookup::next_parentless(state, from) {
+        let addressed = next_addressed(state, mem, from, active, count);
+        match lookup::next_parentless(state, addressed) {
             Found::Nothing => return Answer::Done,
             Found::At(row) => {
                 match take_for(state, services, mem, clock, row, active, count) {
@@ -57,13 +92,14 @@ fn take_for(
     ensures does { λ r. ⌜ Does r (takesAll (tableIn (now (state .entry))) (now (services .entry)) clock (messagesIn active count (now (mem .entry))) row) (tableIn (now (state .entry))) (now (mem .entry)) (now (mem .exit)) ⌝ }
     ensures frame { λ _. ⌜ Frame (tableIn (now (state .entry))) 0 0 (now (mem .entry)) (now (mem .exit)) ⌝ }
 {
-    let mut k = 0;
+    let id = lookup::id_of(state, row);
+    let mut k = next_for(mem, active, 0, count, id);
     while k < count {
         match take_one(state, services, mem, clock, row, active, k) {
             Answer::Done => {}
             Answer::Refused(refusal) => return Answer::Refused(refusal),
         }
-        k += 1;
+        k = next_for(mem, active, k + 1, count, id);
     }
     Answer::Done
 }

@@ -32,8 +32,8 @@ end-of-requires c κs =
     let lent : take (length state - c .before .tail-at .result) (drop (c .before .tail-at .result) state) ≡ tailIn state = to-end (c .before .tail-at .result) state ∙ ap (λ (k : ℕ). drop k state) (c .before .tail-at .ensures) in
     (stored .inside, subst (Laid (tableIn state)) (sym lent) (stored .ready .laid))
 
-load-requires : tie.Need-load-requires
-load-requires c κs = search needs
+load-fresh-requires : tie.Need-load-fresh-requires
+load-fresh-requires c κs = search needs
 
 same-length : tie.Need-same-length
 same-length c = search needs
@@ -51,6 +51,6 @@ begin-spec =
     part-end-of-start
     part-end-of-end
     end-of-requires
-    load-requires
+    load-fresh-requires
     same-length
     returns)

@@ -30,7 +30,7 @@ abbrev μ-loop : tie.MeasureT-loop
 
 begin-requires : tie.Need-begin-requires Inv-loop μ-loop
 begin-requires c κs =
-    (c .before .before .before .before .before .pre .0, c .before .before .before .before .before .pre .1)
+    (c .before .before .before .before .before .pre .0, c .before .before .before .before .before .pre .1, c .before .before .before .before .before .pre .2)
 
 loop-holds : tie.Need-loop-holds Inv-loop μ-loop
 loop-holds c =
@@ -47,7 +47,7 @@ sub-next-step c =
 
 next-step-requires : tie.Need-next-step-requires Inv-loop μ-loop
 next-step-requires c κs =
-    (c .before .before .before .before .before .before .before .before .before .before .before .pre .0, c .before .before .loop .inv .2 .sound, c .before .before .before .before .before .begin .ensures .0, c .before .before .before .before .before .before .before .before .before .before .before .pre .2, c .before .before .loop .inv .2 .came)
+    (c .before .before .before .before .before .before .before .before .before .before .before .pre .0, c .before .before .loop .inv .2 .sound, c .before .before .before .before .before .begin .ensures .0, c .before .before .before .before .before .before .before .before .before .before .before .pre .3, c .before .before .loop .inv .2 .came)
 
 enum-known-count : tie.Need-enum-known-count Inv-loop μ-loop
 enum-known-count c = search needs

@@ -22,36 +22,13 @@ returns-3 c =
     let a = c .before .before .before .before .args in
     sym (is-false (coupled-decides (a .phase) (a .timer) (a .held) (a .own .now) (c .before .before .before .before .pre) (λ i. c .before .before .before .shared-slice-known .given i .fits)) (λ h. let few = h .1 .1 .0 in omega (arith, c .if3 .taken)))
 
-mul-is-clear : tie.Need-mul-is-clear
-mul-is-clear c = search needs
-
-sub-is-clear : tie.Need-sub-is-clear
-sub-is-clear c = search needs
-
-part-is-clear-start : tie.Need-part-is-clear-start
-part-is-clear-start c = search needs
-
-part-is-clear-end : tie.Need-part-is-clear-end
-part-is-clear-end c = search needs
-
-is-clear-requires : tie.Need-is-clear-requires
-is-clear-requires c κs = search needs
+rest-clear-requires : tie.Need-rest-clear-requires
+rest-clear-requires c κs = search needs
 
 returns-4 : tie.Need-returns-4
 returns-4 c =
-    let a = c .before .before .before .before .before .before .args in
-    c .is-clear .ensures ∙ coupled-rest (a .phase) (a .timer) (a .held) (a .own .now) (c .before .before .before .before .before .before .pre) (λ i. c .before .before .before .before .before .shared-slice-known .given i .fits) (c .before .before .before .before .if1 .left) (c .before .before .before .if2 .left) (c .before .before .if3 .left)
+    let a = c .before .before .before .before .before .args in
+    c .rest-clear .ensures ∙ coupled-rest (a .phase) (a .timer) (a .held) (a .own .now) (c .before .before .before .before .before .pre) (λ i. c .before .before .before .before .shared-slice-known .given i .fits) (c .before .before .before .if1 .left) (c .before .before .if2 .left) (c .before .if3 .left)
 
 pub coupled-fits-spec : {M : Type 1} → statement M
-coupled-fits-spec =
-    tie.close
-    (tie.spec
-    returns
-    returns-2
-    returns-3
-    mul-is-clear
-    sub-is-clear
-    part-is-clear-start
-    part-is-clear-end
-    is-clear-requires
-    returns-4)
+coupled-fits-spec = tie.close (tie.spec returns returns-2 returns-3 rest-clear-requires returns-4)

@@ -26,25 +26,13 @@ returns-2 : tie.Need-returns-2
 returns-2 c =
     let a = c .before .before .before .before .before .args in sym (queue-bad (a .held) (a .own .now) (sym (c .before .are-contents .ensures) ∙ not-true _ (c .if2 .taken)))
 
-mul-is-clear : tie.Need-mul-is-clear
-mul-is-clear c = search needs
-
-sub-is-clear : tie.Need-sub-is-clear
-sub-is-clear c = search needs
-
-part-is-clear-start : tie.Need-part-is-clear-start
-part-is-clear-start c = search needs
-
-part-is-clear-end : tie.Need-part-is-clear-end
-part-is-clear-end c = search needs
-
-is-clear-requires : tie.Need-is-clear-requires
-is-clear-requires c κs = search needs
+rest-clear-requires : tie.Need-rest-clear-requires
+rest-clear-requires c κs = search needs
 
 returns-3 : tie.Need-returns-3
 returns-3 c =
-    let a = c .before .before .before .before .before .before .before .args in
-    c .is-clear .ensures ∙ queue-rest (a .held) (a .own .now) (c .before .before .before .before .before .before .before .pre) (c .before .before .before .before .before .if1 .left) (sym (c .before .before .before .are-contents .ensures) ∙ not-false _ (c .before .before .if2 .left))
+    let a = c .before .before .before .before .before .before .args in
+    c .rest-clear .ensures ∙ queue-rest (a .held) (a .own .now) (c .before .before .before .before .if1 .left) (sym (c .before .before .are-contents .ensures) ∙ not-false _ (c .before .if2 .left))
 
 pub queue-fits-spec : {M : Type 1} → statement M
 queue-fits-spec =
@@ -56,9 +44,5 @@ queue-fits-spec =
     part-are-contents-end
     are-contents-requires
     returns-2
-    mul-is-clear
-    sub-is-clear
-    part-is-clear-start
-    part-is-clear-end
-    is-clear-requires
+    rest-clear-requires
     returns-3)

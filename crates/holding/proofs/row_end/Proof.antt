@@ -5,8 +5,8 @@ use Rattle.rules.specs.Table as Table
 use Rattle.rules.specs.Table.{kindAt}
 use Rattle.memory.specs.Words.{timerIn, widthOf}
 use Rattle.lookup.specs.Inside.{tableIn}
-use Rattle.model_events.specs.OfKind.{is-processor, is-batcher, is-stopwatch, no-broken}
-use Rattle.holding.specs.WholeLaws.{row-moved, row-says, is-coupled}
+use Rattle.holding.specs.KindLaws.{of-processor, of-batcher, of-stopwatch, of-coupled}
+use Rattle.holding.specs.WholeLaws.{row-moved, row-says}
 use borrow.Author.Needs.{needs}
 use Rattle.holding.proofs.row_end.Statement.{statement}
 use Rattle.holding.proofs.row_end.Tie as tie
@@ -43,11 +43,11 @@ held-at-requires c κs = search needs
 add-end : tie.Need-add-end
 add-end c = search needs
 
-kind-of-requires : tie.Need-kind-of-requires
-kind-of-requires c κs = search needs
+kind-number-requires : tie.Need-kind-number-requires
+kind-number-requires c κs = search needs
 
-enum-known-model : tie.Need-enum-known-model
-enum-known-model c = search needs
+capacity-of-requires : tie.Need-capacity-of-requires
+capacity-of-requires c κs = search needs
 
 mul-processor-fits : tie.Need-mul-processor-fits
 mul-processor-fits c = search needs
@@ -67,8 +67,12 @@ processor-fits-requires c κs = search needs
 next-if-requires : tie.Need-next-if-requires
 next-if-requires c κs = search needs
 
-enum-told : tie.Need-enum-told
-enum-told c = search needs
+returns-2 : tie.Need-returns-2
+returns-2 c =
+    let a = c .before .before .before .before .before .before .before .before .before .before .before .before .before .args in
+    let k = kindAt (tableIn (a .state .now)) (a .row) in
+    of-processor k (sym (c .before .before .before .before .before .kind-number .ensures) ∙ c .before .before .before .before .if2 .taken) (λ p is. row-says k (Table.processor p) (a .begin) (a .mem .now) (a .row) (c .before .before .before .before .before .before .before .before .phase-at .result) (timerIn (a .mem .now) (a .row)) (c .before .before .before .before .before .before .held-at .result) (a .begin + widthOf (Table.processor p)) (c .before .processor-fits .result) (c .next-if .result)
+    is (sym (c .before .before .before .before .before .before .before .before .before .before .begin-at .ensures) ∙ c .before .before .before .before .before .before .before .before .before .if1 .left) (c .before .before .before .before .before .before .before .before .phase-at .ensures) refl (c .before .before .before .before .before .before .held-at .ensures) refl (c .before .processor-fits .ensures p (c .before .before .before .capacity-of .ensures p is)) (c .next-if .ensures))
 
 mul-batcher-fits : tie.Need-mul-batcher-fits
 mul-batcher-fits c = search needs
@@ -88,8 +92,12 @@ batcher-fits-requires c κs = search needs
 next-if-requires-2 : tie.Need-next-if-requires-2
 next-if-requires-2 c κs = search needs
 
-enum-told-2 : tie.Need-enum-told-2
-enum-told-2 c = search needs
+returns-3 : tie.Need-returns-3
+returns-3 c =
+    let a = c .before .before .before .before .before .before .before .before .before .before .before .before .before .args in
+    let k = kindAt (tableIn (a .state .now)) (a .row) in
+    of-batcher k (sym (c .before .before .before .before .before .kind-number .ensures) ∙ c .before .before .before .if3 .taken) (λ b is. row-says k (Table.batcher b) (a .begin) (a .mem .now) (a .row) (c .before .before .before .before .before .before .before .before .phase-at .result) (timerIn (a .mem .now) (a .row)) (c .before .before .before .before .before .before .held-at .result) (a .begin + widthOf (Table.batcher b)) (c .before .batcher-fits .result) (c .next-if2 .result)
+    is (sym (c .before .before .before .before .before .before .before .before .before .before .begin-at .ensures) ∙ c .before .before .before .before .before .before .before .before .before .if1 .left) (c .before .before .before .before .before .before .before .before .phase-at .ensures) refl (c .before .before .before .before .before .before .held-at .ensures) refl (c .before .batcher-fits .ensures b) (c .next-if2 .ensures))
 
 add-last : tie.Need-add-last
 add-last c = search needs
@@ -112,8 +120,12 @@ stopwatch-fits-requires c κs = search needs
 next-if-requires-3 : tie.Need-next-if-requires-3
 next-if-requires-3 c κs = search needs
 
-enum-told-3 : tie.Need-enum-told-3
-enum-told-3 c = search needs
+returns-4 : tie.Need-returns-4
+returns-4 c =
+    let a = c .before .before .before .before .before .before .before .before .before .before .before .before .before .before .args in
+    let k = kindAt (tableIn (a .state .now)) (a .row) in
+    of-stopwatch k (sym (c .before .before .before .before .before .before .kind-number .ensures) ∙ c .before .before .before .if4 .taken) (λ w is. row-says k (Table.stopwatch w) (a .begin) (a .mem .now) (a .row) (c .before .before .before .before .before .before .before .before .before .phase-at .result) (timerIn (a .mem .now) (a .row)) (c .before .before .before .before .before .before .before .held-at .result) (a .begin + widthOf (Table.stopwatch w)) (c .before .stopwatch-fits .result) (c .next-if3 .result)
+    is (sym (c .before .before .before .before .before .before .before .before .before .before .before .begin-at .ensures) ∙ c .before .before .before .before .before .before .before .before .before .before .if1 .left) (c .before .before .before .before .before .before .before .before .before .phase-at .ensures) refl (c .before .before .before .before .before .before .before .held-at .ensures) refl (c .before .stopwatch-fits .ensures w) (c .next-if3 .ensures))
 
 mul-coupled-fits : tie.Need-mul-coupled-fits
 mul-coupled-fits c = search needs
@@ -133,44 +145,12 @@ coupled-fits-requires c κs = search needs
 next-if-requires-4 : tie.Need-next-if-requires-4
 next-if-requires-4 c κs = search needs
 
-enum-told-4 : tie.Need-enum-told-4
-enum-told-4 c = search needs
-
-returns-2 : tie.Need-returns-2
-returns-2 c =
-    let a = c .before .before .before .before .before .before .before .before .before .before .before .before .before .before .args in
-    let k = kindAt (tableIn (a .state .now)) (a .row) in
-    let known = Table.processor (c .before .before .before .before .model .given .0 .0) in
-    row-says k known (a .begin) (a .mem .now) (a .row) (c .before .before .before .before .before .before .before .before .before .phase-at .result) (timerIn (a .mem .now) (a .row)) (c .before .before .before .before .before .before .before .held-at .result) (a .begin + widthOf known) (c .before .processor-fits .result) (c .next-if .result)
-    (is-processor k (c .before .before .before .before .model .given .0 .0) (sym (c .before .before .before .before .before .before .kind-of .ensures) ∙ c .before .before .before .before .model .given .1)) (sym (c .before .before .before .before .before .before .before .before .before .before .before .begin-at .ensures) ∙ c .before .before .before .before .before .before .before .before .before .before .if1 .left) (c .before .before .before .before .before .before .before .before .before .phase-at .ensures) refl (c .before .before .before .before .before .before .before .held-at .ensures) refl (c .before .processor-fits .ensures) (c .next-if .ensures)
-
-returns-3 : tie.Need-returns-3
-returns-3 c =
-    let a = c .before .before .before .before .before .before .before .before .before .before .before .before .before .args in
-    let k = kindAt (tableIn (a .state .now)) (a .row) in
-    let known = Table.batcher (c .before .before .before .enum-told .given .0 .0) in
-    row-says k known (a .begin) (a .mem .now) (a .row) (c .before .before .before .before .before .before .before .before .phase-at .result) (timerIn (a .mem .now) (a .row)) (c .before .before .before .before .before .before .held-at .result) (a .begin + widthOf known) (c .before .batcher-fits .result) (c .next-if2 .result)
-    (is-batcher k (c .before .before .before .enum-told .given .0 .0) (sym (c .before .before .before .before .before .kind-of .ensures) ∙ c .before .before .before .enum-told .given .1)) (sym (c .before .before .before .before .before .before .before .before .before .before .begin-at .ensures) ∙ c .before .before .before .before .before .before .before .before .before .if1 .left) (c .before .before .before .before .before .before .before .before .phase-at .ensures) refl (c .before .before .before .before .before .before .held-at .ensures) refl (c .before .batcher-fits .ensures (c .before .before .before .enum-told .given .0 .0)) (c .next-if2 .ensures)
-
-returns-4 : tie.Need-returns-4
-returns-4 c =
-    let a = c .before .before .before .before .before .before .before .before .before .before .before .before .before .args in
-    let k = kindAt (tableIn (a .state .now)) (a .row) in
-    let known = Table.stopwatch (c .before .before .before .enum-told2 .given .0 .0) in
-    row-says k known (a .begin) (a .mem .now) (a .row) (c .before .before .before .before .before .before .before .before .phase-at .result) (timerIn (a .mem .now) (a .row)) (c .before .before .before .before .before .before .held-at .result) (a .begin + widthOf known) (c .before .stopwatch-fits .result) (c .next-if3 .result)
-    (is-stopwatch k (c .before .before .before .enum-told2 .given .0 .0) (sym (c .before .before .before .before .before .kind-of .ensures) ∙ c .before .before .before .enum-told2 .given .1)) (sym (c .before .before .before .before .before .before .before .before .before .before .begin-at .ensures) ∙ c .before .before .before .before .before .before .before .before .before .if1 .left) (c .before .before .before .before .before .before .before .before .phase-at .ensures) refl (c .before .before .before .before .before .before .held-at .ensures) refl (c .before .stopwatch-fits .ensures (c .before .before .before .enum-told2 .given .0 .0)) (c .next-if3 .ensures)
-
 returns-5 : tie.Need-returns-5
 returns-5 c =
-    let a = c .before .before .before .before .before .before .before .before .before .before .before .before .before .args in
+    let a = c .before .before .before .before .before .before .before .before .before .before .before .before .before .before .args in
     let k = kindAt (tableIn (a .state .now)) (a .row) in
-    let known = Table.coupled in
-    row-says k known (a .begin) (a .mem .now) (a .row) (c .before .before .before .before .before .before .before .before .phase-at .result) (timerIn (a .mem .now) (a .row)) (c .before .before .before .before .before .before .held-at .result) (a .begin + widthOf known) (c .before .coupled-fits .result) (c .next-if4 .result)
-    (is-coupled k (sym (c .before .before .before .before .before .kind-of .ensures) ∙ c .before .before .before .enum-told3 .given .1)) (sym (c .before .before .before .before .before .before .before .before .before .before .begin-at .ensures) ∙ c .before .before .before .before .before .before .before .before .before .if1 .left) (c .before .before .before .before .before .before .before .before .phase-at .ensures) refl (c .before .before .before .before .before .before .held-at .ensures) refl (c .before .coupled-fits .ensures) (c .next-if4 .ensures)
-
-returns-6 : tie.Need-returns-6
-returns-6 c =
-    let a = c .before .before .before .before .before .before .before .before .before .before .args in absurd (no-broken (kindAt (tableIn (a .state .now)) (a .row)) (sym (c .before .before .kind-of .ensures) ∙ c .enum-told4 .given .1))
+    row-says k Table.coupled (a .begin) (a .mem .now) (a .row) (c .before .before .before .before .before .before .before .before .before .phase-at .result) (timerIn (a .mem .now) (a .row)) (c .before .before .before .before .before .before .before .held-at .result) (a .begin + widthOf Table.coupled) (c .before .coupled-fits .result) (c .next-if4 .result)
+    (of-coupled k (λ e. c .before .before .before .before .before .if2 .left (c .before .before .before .before .before .before .kind-number .ensures ∙ e)) (λ e. c .before .before .before .before .if3 .left (c .before .before .before .before .before .before .kind-number .ensures ∙ e)) (λ e. c .before .before .before .if4 .left (c .before .before .before .before .before .before .kind-number .ensures ∙ e))) (sym (c .before .before .before .before .before .before .before .before .before .before .before .begin-at .ensures) ∙ c .before .before .before .before .before .before .before .before .before .before .if1 .left) (c .before .before .before .before .before .before .before .before .before .phase-at .ensures) refl (c .before .before .before .before .before .before .before .held-at .ensures) refl (c .before .coupled-fits .ensures) (c .next-if4 .ensures)
 
 pub row-end-spec : {M : Type 1} → statement M
 row-end-spec =
@@ -186,22 +166,22 @@ row-end-spec =
     shared-slice-read-timer
     held-at-requires
     add-end
-    kind-of-requires
-    enum-known-model
+    kind-number-requires
+    capacity-of-requires
     mul-processor-fits
     sub-processor-fits
     part-processor-fits-start
     part-processor-fits-end
     processor-fits-requires
     next-if-requires
-    enum-told
+    returns-2
     mul-batcher-fits
     sub-batcher-fits
     part-batcher-fits-start
     part-batcher-fits-end
     batcher-fits-requires
     next-if-requires-2
-    enum-told-2
+    returns-3
     add-last
     mul-stopwatch-fits
     sub-stopwatch-fits
@@ -209,16 +189,11 @@ row-end-spec =
     part-stopwatch-fits-end
     stopwatch-fits-requires
     next-if-requires-3
-    enum-told-3
+    returns-4
     mul-coupled-fits
     sub-coupled-fits
     part-coupled-fits-start
     part-coupled-fits-end
     coupled-fits-requires
     next-if-requires-4
-    enum-told-4
-    returns-2
-    returns-3
-    returns-4
-    returns-5
-    returns-6)
+    returns-5)

@@ -5,14 +5,14 @@ use Rattle.rules.specs.Calls.{stepsUntil}
 use Rattle.rerunning.specs.Running.{simOf}
 use Rattle.storing.specs.State.{kept}
 use Rattle.storing.specs.StoredLaws.{stored-of}
-use Rattle.lent_runs.specs.BackLaws.{told-reports}
+use Rattle.lent_runs.specs.BackLaws.{none-held, told-reports}
 use borrow.Author.Needs.{needs}
 use Rattle.lent_runs.proofs.run_in.Statement.{statement}
 use Rattle.lent_runs.proofs.run_in.Tie as tie
 
 run-requires : tie.Need-run-requires
 run-requires c κs =
-    (stored-of ((c .before .before .before .before .before .before .before) .args .state .now) ((c .before .before .before .before .before .before .before) .pre .0), (c .before .before .before .before .before .before .before) .pre .1, (c .before .before .before .before .before .before .before) .pre .2)
+    (stored-of ((c .before .before .before .before .before .before .before) .args .state .now) ((c .before .before .before .before .before .before .before) .pre .0), (c .before .before .before .before .before .before .before) .pre .1, none-held ((c .before .before .before .before .before .before .before) .args .mem .now) ((c .before .before .before .before .before .before .before) .pre .2), (c .before .before .before .before .before .before .before) .pre .3)
 
 write-back-requires : tie.Need-write-back-requires
 write-back-requires c κs = search needs

@@ -12,7 +12,7 @@ slice-aggregate-run-in c = search needs
 
 run-in-requires : tie.Need-run-in-requires
 run-in-requires c κs =
-    ((c .before .before .before .before .before .before) .pre .0, words-enough ((c .before .before .before .before .before .before) .args .state .now) 64 _ (sizes-in ((c .before .before .before .before .before .before) .args .state .now) (stored-of ((c .before .before .before .before .before .before) .args .state .now) ((c .before .before .before .before .before .before) .pre .0) .inside) .0) (omega arith), (c .before .before .before .before .before .before) .pre .1)
+    ((c .before .before .before .before .before .before) .pre .0, words-enough ((c .before .before .before .before .before .before) .args .state .now) 64 _ (sizes-in ((c .before .before .before .before .before .before) .args .state .now) (stored-of ((c .before .before .before .before .before .before) .args .state .now) ((c .before .before .before .before .before .before) .pre .0) .inside) .0) (omega arith), search needs, (c .before .before .before .before .before .before) .pre .1)
 
 same-length : tie.Need-same-length
 same-length c = search needs

@@ -7,7 +7,7 @@ use mathlib.Core.Logic.{⊎-elim}
 use native.Mathlib.Omega.{arith}
 use lib.ListN.{length}
 use lib.Dec.{T}
-use lib.Ieee.{Float}
+use lib.Ieee.{Float, lt}
 use Rattle.times.specs.Time.{isTimer, leastOf}
 use Rattle.times.specs.Laws.{never-timer, least-timer}
 use Rattle.rules.specs.Table.{kindAt}
@@ -15,8 +15,9 @@ use Rattle.rules.specs.Step.{leastTimer}
 use Rattle.lookup.specs.Inside.{tableIn}
 use Rattle.lookup.specs.InsideLaws.{sizes-in}
 use Rattle.views.specs.World.{beginOf, statesIn}
-use Rattle.views.specs.Timers.{own-here, head-here, own-timer, timer-here}
-use Rattle.row_timers.specs.Leasts.{own, leastFrom, join-start, join-atom, join-coupled, join-end}
+use Rattle.views.specs.Timers.{own-here, head-here, own-timer}
+use Rattle.row_timers.specs.Leasts.{own, leastFrom, second-wins, join-start, join-atom, join-coupled, join-over, join-end}
+use Rattle.row_timers.specs.Aging.{timer-any}
 use Rattle.row_timers.proofs.least_timer.Statement.{statement}
 use Rattle.row_timers.proofs.least_timer.Tie as tie
 
@@ -45,23 +46,18 @@ loop-holds c =
           ∙ join-start (a .state .now) (a .mem .now) (start .pre .0) (start .pre .1) (c .before .row-count .result) (c .before .row-count .ensures),
     )
 
-is-coupled-requires : tie.Need-is-coupled-requires Inv-loop μ-loop
-is-coupled-requires c κs =
-    (c .before .before .before .before .before .before .pre .0, (let e = c .before .loop .inv .0 in let l = c .loop-test .taken in omega arith))
-
 timer-at-requires : tie.Need-timer-at-requires Inv-loop μ-loop
 timer-at-requires c κs =
-    let start = c .before .before .before .before .before .before .before .before in
-    let loop = c .before .before .before .loop in
+    let start = c .before .before .before .before .before .before in
+    let loop = c .before .loop in
     let a = start .args in
     let t = tableIn (a .state .now) in
-    let l : loop .row < length (t .rows) = (let e = loop .inv .0 in let m = c .before .before .loop-test .taken in omega arith) in (
-      head-here t (a .mem .now) (loop .row) l (start .pre .1 .laid),
-      timer-here t (a .mem .now) (loop .row) l (sym (c .before .is-coupled .ensures) ∙ not-true (c .before .is-coupled .result) (c .if1 .taken)) (own-timer t (a .mem .now) (loop .row) l (start .pre .1)),
-    )
+    let l : loop .row < length (t .rows) = (let e = loop .inv .0 in let m = c .loop-test .taken in omega arith) in
+    (head-here t (a .mem .now) (loop .row) l (start .pre .1 .laid), timer-any t (a .mem .now) (loop .row) l (start .pre .1 .laid) (own-timer t (a .mem .now) (loop .row) l (start .pre .1)))
 
-least-requires : tie.Need-least-requires Inv-loop μ-loop
-least-requires c κs = search needs
+is-coupled-requires : tie.Need-is-coupled-requires Inv-loop μ-loop
+is-coupled-requires c κs =
+    (c .before .before .before .before .before .before .before .before .pre .0, (let e = c .before .before .before .loop .inv .0 in let l = c .before .before .loop-test .taken in omega arith))
 
 add-row : tie.Need-add-row Inv-loop μ-loop
 add-row c =
@@ -86,21 +82,29 @@ loop-again c =
     let l = c .before .before .loop-test .taken in
     let ready = start .pre .1 in
     let inside : row < length (t .rows) = omega (arith, whole, l) in
-    let here = c .before .is-coupled .ensures in
-    let answer = c .before .is-coupled .result in
+    let read = c .before .timer-at .ensures in
     ⊎-elim
     (λ w.
-    let e : c .if1 .least ≡ leastOf x (own t mem row) = w .3 ∙ w .2 .ensures ∙ ap (leastOf x) (w .1 .ensures ∙ sym (own-here (kindAt t row) (beginOf t row) mem row (sym here ∙ not-true answer (w .0 .taken)))) in (
+    let atom = sym (w .1 .ensures) ∙ not-true (w .1 .result) (w .2 .taken) in
+    let here = sym (own-here (kindAt t row) (beginOf t row) mem row atom) in
+    let e : c .if1 .least ≡ leastOf x (own t mem row) = w .3 ∙ sym (second-wins x (c .before .timer-at .result) (w .0 .taken)) ∙ ap (leastOf x) (read ∙ here) in (
       whole,
       subst (λ (z : Float). T (isTimer z)) (sym e) (least-timer x (own t mem row) (loop .inv .1) (own-timer t mem row inside ready)),
       ap (λ (z : Float). leastOf z (leastFrom t mem (row + 1) end)) e ∙ join-atom t mem ready end whole row l x (loop .inv .1) ∙ loop .inv .2,
+    ))
+    (⊎-elim
+    (λ w.
+    let e : c .if1 .least ≡ x = w .3 in (
+      whole,
+      subst (λ (z : Float). T (isTimer z)) (sym e) (loop .inv .1),
+      ap (λ (z : Float). leastOf z (leastFrom t mem (row + 1) end)) e ∙ ap (leastOf x) (join-coupled t mem ready end whole row l (sym (w .1 .ensures) ∙ not-false (w .1 .result) (w .2 .left))) ∙ loop .inv .2,
     ))
     (λ w.
     let e : c .if1 .least ≡ x = w .1 in (
       whole,
       subst (λ (z : Float). T (isTimer z)) (sym e) (loop .inv .1),
-      ap (λ (z : Float). leastOf z (leastFrom t mem (row + 1) end)) e ∙ ap (leastOf x) (join-coupled t mem ready end whole row l (sym here ∙ not-false answer (w .0 .left))) ∙ loop .inv .2,
-    ))
+      ap (λ (z : Float). leastOf z (leastFrom t mem (row + 1) end)) e ∙ join-over t mem ready end whole row l x (loop .inv .1) (ap (λ (z : Float). lt z x) (sym read) ∙ w .0 .left) ∙ loop .inv .2,
+    )))
     (c .if1 .came)
 
 returns : tie.Need-returns Inv-loop μ-loop
@@ -120,9 +124,8 @@ least-timer-spec =
     row-count-requires
     never-requires
     loop-holds
-    is-coupled-requires
     timer-at-requires
-    least-requires
+    is-coupled-requires
     add-row
     loop-less
     loop-again

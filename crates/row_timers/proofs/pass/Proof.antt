@@ -51,6 +51,7 @@ pass-row-requires c κs =
       loop .inv .1 .laid,
       l,
       subst (λ (s : State). T (isTimer (ownTimer s))) (sym (loop .inv .1 .left (loop .row) l (omega arith))) (own-timer t (a .mem .now) (loop .row) l (start .pre .1)),
+      start .pre .2,
     )
 
 add-row : tie.Need-add-row Inv-loop μ-loop

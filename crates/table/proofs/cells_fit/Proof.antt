@@ -2,26 +2,25 @@
 use Prim.Native.Nat.{_-_}
 use mathlib.Core.Path.{_≡_, refl, sym, _∙_}
 use borrow.Author.Needs.{needs}
-use Rattle.table.specs.Readers.{rowOf}
 use Rattle.table.specs.Judging.{cellsFit}
 use Rattle.table.proofs.Laws.{cells-end, cells-stop, cells-next}
 use Rattle.table.proofs.cells_fit.Statement.{statement}
 use Rattle.table.proofs.cells_fit.Tie as tie
 
 abbrev Inv-loop : tie.InvT-loop
-Inv-loop slice width row first end at₀ at = cellsFit (rowOf width slice row) at end ≡ cellsFit (rowOf width slice row) first end
+Inv-loop words first end at₀ at = cellsFit words at end ≡ cellsFit words first end
 
 abbrev μ-loop : tie.MeasureT-loop
-μ-loop slice width row first end at₀ at = end - at
+μ-loop words first end at₀ at = end - at
 
 loop-holds : tie.Need-loop-holds Inv-loop μ-loop
 loop-holds c = refl
 
-cell-requires : tie.Need-cell-requires Inv-loop μ-loop
-cell-requires c κs = search needs
+word-at-requires : tie.Need-word-at-requires Inv-loop μ-loop
+word-at-requires c κs = search needs
 
 returns : tie.Need-returns Inv-loop μ-loop
-returns c = let l = c .before .before .before .loop in sym (cells-stop _ (l .at) _ (c .before .before .loop-test .taken) (c .before .cell .ensures) (c .if1 .taken)) ∙ l .inv
+returns c = let l = c .before .before .before .loop in sym (cells-stop _ (l .at) _ (c .before .before .loop-test .taken) (c .before .word-at .ensures) (c .if1 .taken)) ∙ l .inv
 
 add-at : tie.Need-add-at Inv-loop μ-loop
 add-at c = search needs
@@ -30,7 +29,7 @@ loop-less : tie.Need-loop-less Inv-loop μ-loop
 loop-less c = search needs
 
 loop-again : tie.Need-loop-again Inv-loop μ-loop
-loop-again c = let l = c .before .before .before .loop in sym (cells-next _ (l .at) _ (c .before .before .loop-test .taken) (c .before .cell .ensures) (c .if1 .left)) ∙ l .inv
+loop-again c = let l = c .before .before .before .loop in sym (cells-next _ (l .at) _ (c .before .before .loop-test .taken) (c .before .word-at .ensures) (c .if1 .left)) ∙ l .inv
 
 returns-2 : tie.Need-returns-2 Inv-loop μ-loop
 returns-2 c = let l = c .before .loop in sym (cells-end _ (l .at) _ (c .loop-test .left)) ∙ l .inv
@@ -42,7 +41,7 @@ cells-fit-spec =
     Inv-loop
     μ-loop
     loop-holds
-    cell-requires
+    word-at-requires
     returns
     add-at
     loop-less

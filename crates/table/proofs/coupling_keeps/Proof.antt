@@ -32,14 +32,14 @@ returns-3 c =
     let f = c .before .before .before in
     rw (sym (f .before .before .is-whole .ensures) ∙ not-false _ (f .before .if1 .left), sym (f .cells-fit .ensures) ∙ not-false _ (c .before .before .if2 .left), sym (c .before .cells-fit2 .ensures) ∙ not-true _ (c .if3 .taken))
 
-cell-requires : tie.Need-cell-requires
-cell-requires c κs = search needs
+word-at-requires : tie.Need-word-at-requires
+word-at-requires c κs = search needs
 
-cell-requires-2 : tie.Need-cell-requires-2
-cell-requires-2 c κs = search needs
+word-at-requires-2 : tie.Need-word-at-requires-2
+word-at-requires-2 c κs = search needs
 
-cell-requires-3 : tie.Need-cell-requires-3
-cell-requires-3 c κs = search needs
+word-at-requires-3 : tie.Need-word-at-requires-3
+word-at-requires-3 c κs = search needs
 
 owner-fits-requires : tie.Need-owner-fits-requires
 owner-fits-requires c κs = search needs
@@ -50,7 +50,7 @@ returns-4 c =
     let o = c .before .before .before .before in
     let g = o .before in
     let f = g .before .before in
-    rw (sym (f .before .before .is-whole .ensures) ∙ not-false _ (f .before .if1 .left), sym (f .cells-fit .ensures) ∙ not-false _ (g .before .if2 .left), sym (g .cells-fit2 .ensures) ∙ not-false _ (o .if3 .left), ← c .before .before .before .cell .ensures, ← c .before .before .cell2 .ensures, ← c .before .cell3 .ensures, ← c .owner-fits .ensures) (sym (one _))
+    rw (sym (f .before .before .is-whole .ensures) ∙ not-false _ (f .before .if1 .left), sym (f .cells-fit .ensures) ∙ not-false _ (g .before .if2 .left), sym (g .cells-fit2 .ensures) ∙ not-false _ (o .if3 .left), ← c .before .before .before .word-at .ensures, ← c .before .before .word-at2 .ensures, ← c .before .word-at3 .ensures, ← c .owner-fits .ensures) (sym (one _))
 
 pub coupling-keeps-spec : {M : Type 1} → statement M
 coupling-keeps-spec =
@@ -62,8 +62,8 @@ coupling-keeps-spec =
     returns-2
     cells-fit-requires-2
     returns-3
-    cell-requires
-    cell-requires-2
-    cell-requires-3
+    word-at-requires
+    word-at-requires-2
+    word-at-requires-3
     owner-fits-requires
     returns-4)

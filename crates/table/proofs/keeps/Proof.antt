@@ -1,6 +1,7 @@
 -- `table::keeps` meets its contract, by the part. Assumes nothing.
+use mathlib.Core.Path.{ap, _∙_}
 use borrow.Author.Needs.{needs}
-use Rattle.table.specs.Judging.{keepsIn}
+use Rattle.table.specs.Judging.{allIn, connectorKeeps, couplingKeeps, keepsIn}
 use Rattle.table.proofs.keeps.Statement.{statement}
 use Rattle.table.proofs.keeps.Tie as tie
 
@@ -8,7 +9,7 @@ enum-told : tie.Need-enum-told
 enum-told c = search needs
 
 row-keeps-requires : tie.Need-row-keeps-requires
-row-keeps-requires c κs = search needs
+row-keeps-requires c κs = rw (c .enum-told .given .1) at (c .before .before .before .before .before .pre)
 
 enum-told-2 : tie.Need-enum-told-2
 enum-told-2 c = search needs
@@ -28,11 +29,18 @@ returns c = rw (c .before .enum-told .given .1) (c .row-keeps .ensures)
 
 returns-2 : tie.Need-returns-2
 unfolding keepsIn
-returns-2 c = rw (c .before .enum-told2 .given .1) (c .connector-keeps .ensures)
+returns-2 c =
+    let e = c .before .enum-told2 .given .1 in
+    let w = rw e at (c .before .before .before .before .before .before .pre .0) in
+    rw e (c .connector-keeps .ensures ∙ ap connectorKeeps w)
 
 returns-3 : tie.Need-returns-3
 unfolding keepsIn
-returns-3 c = rw (c .before .enum-told3 .given .1) (c .coupling-keeps .ensures)
+returns-3 c =
+    let e = c .before .enum-told3 .given .1 in
+    let s = c .before .before .before .before .before .before in
+    let w = rw e at (s .pre .0) in
+    rw e (c .coupling-keeps .ensures ∙ ap (couplingKeeps (allIn (s .args .models .now))) w)
 
 pub keeps-spec : {M : Type 1} → statement M
 keeps-spec =
