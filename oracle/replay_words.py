@@ -2,45 +2,25 @@
 
     python3 oracle/replay_words.py > crates/replay/stdout
 
-The layout is written here from docs/LAYOUT.md, and not from the Rattle code. Only what the bench's table has: a batcher and a
-processor.
+The layout is that of layout.py, written from docs/LAYOUT.md and not from the Rattle code.
 """
-import struct
-
+from antt_text import Told
+from asking import bits, simulation_lines
+from layout import Unused, changing_words, least_length, message_words, table_words
 from reading import BatcherRow, Connector, Message, ProcessorRow, Simulation, Table
 
-MODELS = [1, 2, 0, 0, 1, 0, 0, 2, 2, 0x4024000000000000, 2, 1, 2, 0, 1, 0, 0, 2, 8, 0]
-CONNECTORS = [1, 2, 2, 1]
 TABLE = Table([BatcherRow(1, None, 1, 2, 2, 10.0), ProcessorRow(2, None, 1, 2, 8)], [Connector(1, 2, 2, 1)], [])
-PHASES = {'Passive': 0, 'Batching': 1, 'Release': 2, 'Active': 1}
-STATE_WORDS = 2 * 206 + 4 + 1542
 LARGEST = 64 * 206 + 256 * 4 + 256 * 6 + 1542
-
-
-def bits(value):
-    """The bits of an f64."""
-    return struct.unpack('<Q', struct.pack('<d', value))[0]
-
-
-def row_of(message):
-    """A message, written out."""
-    return [*message[:4], bits(message.time), message.content]
 
 
 def rows_of(messages):
     """Messages, one straight after the other."""
-    return [word for message in messages for word in row_of(message)]
+    return message_words(message._replace(time=bits(message.time)) for message in messages)
 
 
 def state_of(simulation):
     """The words of the state in use."""
-    models = simulation.models
-    heads, owns = [], []
-    for index, model in enumerate(models):
-        heads += [PHASES[model.phase], bits(model.timer), len(model.held), 3 + 4 * len(models) + 64 * index]
-        owns += model.held + [0] * (64 - len(model.held))
-    changing = [len(simulation.active), bits(simulation.clock), simulation.place] + heads + owns + rows_of(simulation.active)
-    return [2, 1, 0] + MODELS + CONNECTORS + changing
+    return table_words(TABLE, Unused()) + changing_words(TABLE.rows, Told(simulation_lines(simulation)))
 
 
 def laid(words, buffer):
@@ -80,7 +60,7 @@ def run_until(simulation, buffer, room):
 
 def main():
     """The steps one by one, then until 10, then the same by value."""
-    simulation, buffer = begun([0] * STATE_WORDS)
+    simulation, buffer = begun([0] * least_length(TABLE))
     show('  state', buffer)
     for number in range(1, 12):
         ran = simulation.step()

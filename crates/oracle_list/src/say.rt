@@ -1,0 +1,53 @@
+// What the replay writes to standard output.
+use crate::answers::Seen;
+use crate::list::Total;
+
+fn text(bytes: &[u8]) {
+    io::write_all(1, bytes);
+}
+
+fn number(n: u64) {
+    io::print_decimal(1, n);
+}
+
+// Where a call differs, counted from 0.
+fn place(seen: Seen) {
+    match seen {
+        Seen::Same => {}
+        Seen::Answer(place) => {
+            text(b": number ");
+            number(place as u64);
+            text(b" of its answer");
+        }
+        Seen::State(place) => {
+            text(b": word ");
+            number(place as u64);
+            text(b" of the state");
+        }
+        Seen::Wrong => text(b": no such call, or the oracle's answer is cut short"),
+    }
+}
+
+// A call that differs; 0 stands for the case's first line.
+pub fn differs(case: u64, call: u64, seen: Seen) {
+    text(b"case ");
+    number(case);
+    text(b", call ");
+    number(call);
+    place(seen);
+    text(b"\n");
+}
+
+pub fn cut_short() {
+    text(b"the list is cut short\n");
+}
+
+// The last line.
+pub fn total(total: Total) {
+    number(total.cases);
+    text(b" cases, ");
+    number(total.calls);
+    text(b" calls, ");
+    number(total.differ);
+    text(b" differ\n");
+}
