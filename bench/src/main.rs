@@ -20,7 +20,10 @@ const USAGE: &str = "usage: bench/run [--sizes] [--repetitions N] [--rounds N]
   no option      the five workloads, and the intake of the largest table
   --sizes        rings of 2 to 64 processors, with as many jobs and with one
   --repetitions  how often each side is timed, by turns; the best counts (5 if left out)
-  --rounds       how many times 10,000 steps are timed together (10 if left out, at most 100)";
+  --rounds       how many times 10,000 steps are timed together (10 if left out, at most 11: the list of service times ends)";
+
+/// The rings with 64 jobs take 32 service times a step.
+const MOST_ROUNDS: usize = 11;
 
 /// What the command line asks for.
 enum Task {
@@ -92,7 +95,7 @@ fn read(words: &[String]) -> Option<Task> {
         match word.as_str() {
             "--sizes" => is_sizes = true,
             "--repetitions" => effort.repetitions = words.next()?.parse().ok()?,
-            "--rounds" => effort.rounds = words.next()?.parse().ok().filter(|&n| n <= 100)?,
+            "--rounds" => effort.rounds = words.next()?.parse().ok().filter(|&n| n <= MOST_ROUNDS)?,
             "--names" => return words.next().is_none().then_some(Task::Names),
             "--alone" => return read_alone(words.as_slice()),
             _ => return None,
