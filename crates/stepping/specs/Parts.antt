@@ -1,6 +1,6 @@
 -- The parts of a step in place: a turn of a model without parent, what an advance of 0 leaves, and the parts put together. Assumes nothing.
 use Prim.Native.Nat.{ℕ, _+_, _*_, _-_, _≤_, _<_}
-use mathlib.Core.Path.{_≡_, refl, sym, ap, _∙_}
+use mathlib.Core.Path.{_≡_, refl, sym, ap, subst, _∙_}
 use mathlib.Core.Logic.{inl}
 use mathlib.Core.Bool.{Bool, true, false, false≢true}
 use mathlib.Core.List.{List}
@@ -114,5 +114,5 @@ module _ (t : Table) (ok : Fine t) (services : List Float) (clock : Float) (acti
         onward = onward-skip (rootTurn t services clock) (isRoot t) row (length (t .rows)) _ _ (g .onward) l e;
       }
 
-  pub pass-turns : (row : ℕ) → row ≤ length (t .rows) → Down row → Down (stopFrom (atZero mem) row (length (t .rows) - row))
-  pass-turns row l g = stop-over (atZero mem) Down (length (t .rows)) pass-turn row l g
+  pub pass-turns : (row here : ℕ) → here ≡ stopFrom (atZero mem) row (length (t .rows) - row) → row ≤ length (t .rows) → Down row → Down here
+  pass-turns row here e l g = subst Down (sym e) (stop-over (atZero mem) Down (length (t .rows)) pass-turn row l g)

@@ -168,5 +168,5 @@ module _ (t : Table) (services : List Float) (clock : Float) (active count : ℕ
           (frame-same t 0 0 mem)
       by false e = going-skip t visits (hasNoParent t) mem₀ (length (t .rows)) row mem g l e
 
-  pub pass-rows : (row : ℕ) → row ≤ length (t .rows) → Down row → Down (stopFrom (isAddressed t active count mem) row (length (t .rows) - row))
-  pass-rows row l g = stop-over (isAddressed t active count mem) Down (length (t .rows)) pass-row row l g
+  pub pass-rows : (row here : ℕ) → here ≡ stopFrom (isAddressed t active count mem) row (length (t .rows) - row) → row ≤ length (t .rows) → Down row → Down here
+  pass-rows row here e l g = subst Down (sym e) (stop-over (isAddressed t active count mem) Down (length (t .rows)) pass-row row l g)

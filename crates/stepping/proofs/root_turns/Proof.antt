@@ -76,7 +76,7 @@ returns c =
     let hi = length (a .mem .now) in
     let within : (c .before .before .before .before .before .before .loop) .from ≤ rows = omega (arith, (c .before .before .before .before .before .before .loop) .inv .0, (c .before .before .before .before .before .loop-test) .taken) in
     let here = (c .before .before .before .next-at-zero) .result in
-    let g = subst (λ (n : ℕ). Adding t (messagesIn (a .active)) 256 visit (isRoot t) (a .active) hi (a .mem .now) 0 rows n ((c .before .before .before .before .before .before .loop) .mem) ((c .before .before .before .before .before .before .loop) .count)) (sym ((c .before .before .before .next-at-zero) .ensures)) (pass-turns t (fine-in (a .state .now) ((c .before .before .before .before .before .before .before .before .before .before .before) .pre .0 .inside)) (a .services .now) (a .clock) (a .active) (a .active) hi ((c .before .before .before .before .before .before .loop) .count) (a .mem .now) ((c .before .before .before .before .before .before .loop) .mem) ((c .before .before .before .before .before .before .loop) .from) within ((c .before .before .before .before .before .before .loop) .inv .2)) in
+    let g = pass-turns t (fine-in (a .state .now) ((c .before .before .before .before .before .before .before .before .before .before .before) .pre .0 .inside)) (a .services .now) (a .clock) (a .active) (a .active) hi ((c .before .before .before .before .before .before .loop) .count) (a .mem .now) ((c .before .before .before .before .before .before .loop) .mem) ((c .before .before .before .before .before .before .loop) .from) here ((c .before .before .before .next-at-zero) .ensures) within ((c .before .before .before .before .before .before .loop) .inv .2) in
     let m = adding-none t (messagesIn (a .active)) 256 visit (isRoot t) (a .active) hi (a .mem .now) 0 rows here ((c .before .before .before .before .before .before .loop) .mem) ((c .before .before .before .before .before .before .loop) .count) g (sym ((c .before .before .next-parentless) .ensures) ∙ (c .enum-told) .given .1) in
     (m, g .frame)
 
@@ -89,12 +89,11 @@ root-turn-requires : tie.Need-root-turn-requires Inv-loop μ-loop
 root-turn-requires c κs =
     let a = (c .before .before .before .before .before .before .before .before .before .before .before .before .before) .args in
     let t = tableIn (a .state .now) in
-    let visit = Step.rootTurn t (a .services .now) (a .clock) in
     let rows = length (t .rows) in
     let hi = length (a .mem .now) in
     let within : (c .before .before .before .before .before .before .before .before .loop) .from ≤ rows = omega (arith, (c .before .before .before .before .before .before .before .before .loop) .inv .0, (c .before .before .before .before .before .before .before .loop-test) .taken) in
     let here = (c .before .before .before .before .before .next-at-zero) .result in
-    let g = subst (λ (n : ℕ). Adding t (messagesIn (a .active)) 256 visit (isRoot t) (a .active) hi (a .mem .now) 0 rows n ((c .before .before .before .before .before .before .before .before .loop) .mem) ((c .before .before .before .before .before .before .before .before .loop) .count)) (sym ((c .before .before .before .before .before .next-at-zero) .ensures)) (pass-turns t (fine-in (a .state .now) ((c .before .before .before .before .before .before .before .before .before .before .before .before .before) .pre .0 .inside)) (a .services .now) (a .clock) (a .active) (a .active) hi ((c .before .before .before .before .before .before .before .before .loop) .count) (a .mem .now) ((c .before .before .before .before .before .before .before .before .loop) .mem) ((c .before .before .before .before .before .before .before .before .loop) .from) within ((c .before .before .before .before .before .before .before .before .loop) .inv .2)) in
+    let g = pass-turns t (fine-in (a .state .now) ((c .before .before .before .before .before .before .before .before .before .before .before .before .before) .pre .0 .inside)) (a .services .now) (a .clock) (a .active) (a .active) hi ((c .before .before .before .before .before .before .before .before .loop) .count) (a .mem .now) ((c .before .before .before .before .before .before .before .before .loop) .mem) ((c .before .before .before .before .before .before .before .before .loop) .from) here ((c .before .before .before .before .before .next-at-zero) .ensures) within ((c .before .before .before .before .before .before .before .before .loop) .inv .2) in
     let found = sym ((c .before .before .before .before .next-parentless) .ensures) ∙ (c .before .before .row) .given .1 in
     let row = (c .before .before .row) .given .0 .0 in
     let bounds = sweep-bounds {S = ℕ} (λ k s. done s) (isRoot t) here rows 0 row found in (
@@ -128,7 +127,7 @@ returns-2 c =
     let hi = length (a .mem .now) in
     let within : (c .before .before .before .before .before .before .before .before .before .before .before .before .before .before .loop) .from ≤ rows = omega (arith, (c .before .before .before .before .before .before .before .before .before .before .before .before .before .before .loop) .inv .0, (c .before .before .before .before .before .before .before .before .before .before .before .before .before .loop-test) .taken) in
     let here = (c .before .before .before .before .before .before .before .before .before .before .before .next-at-zero) .result in
-    let g = subst (λ (n : ℕ). Adding t (messagesIn (a .active)) 256 visit (isRoot t) (a .active) hi (a .mem .now) 0 rows n ((c .before .before .before .before .before .before .before .before .before .before .before .before .before .before .loop) .mem) ((c .before .before .before .before .before .before .before .before .before .before .before .before .before .before .loop) .count)) (sym ((c .before .before .before .before .before .before .before .before .before .before .before .next-at-zero) .ensures)) (pass-turns t (fine-in (a .state .now) ((c .before .before .before .before .before .before .before .before .before .before .before .before .before .before .before .before .before .before .before) .pre .0 .inside)) (a .services .now) (a .clock) (a .active) (a .active) hi ((c .before .before .before .before .before .before .before .before .before .before .before .before .before .before .loop) .count) (a .mem .now) ((c .before .before .before .before .before .before .before .before .before .before .before .before .before .before .loop) .mem) ((c .before .before .before .before .before .before .before .before .before .before .before .before .before .before .loop) .from) within ((c .before .before .before .before .before .before .before .before .before .before .before .before .before .before .loop) .inv .2)) in
+    let g = pass-turns t (fine-in (a .state .now) ((c .before .before .before .before .before .before .before .before .before .before .before .before .before .before .before .before .before .before .before) .pre .0 .inside)) (a .services .now) (a .clock) (a .active) (a .active) hi ((c .before .before .before .before .before .before .before .before .before .before .before .before .before .before .loop) .count) (a .mem .now) ((c .before .before .before .before .before .before .before .before .before .before .before .before .before .before .loop) .mem) ((c .before .before .before .before .before .before .before .before .before .before .before .before .before .before .loop) .from) here ((c .before .before .before .before .before .before .before .before .before .before .before .next-at-zero) .ensures) within ((c .before .before .before .before .before .before .before .before .before .before .before .before .before .before .loop) .inv .2) in
     let found = sym ((c .before .before .before .before .before .before .before .before .before .before .next-parentless) .ensures) ∙ (c .before .before .before .before .before .before .before .before .row) .given .1 in
     let row = (c .before .before .before .before .before .before .before .before .row) .given .0 .0 in
     let after = (c .before .before .before .before .before .root-turn) .last .1 .1 .0 in
@@ -142,12 +141,8 @@ add-from : tie.Need-add-from Inv-loop μ-loop
 add-from c =
     let a = (c .before .before .before .before .before .before .before .before .before .before .before .before .before .before .before .before .before .before .before) .args in
     let t = tableIn (a .state .now) in
-    let visit = Step.rootTurn t (a .services .now) (a .clock) in
     let rows = length (t .rows) in
-    let hi = length (a .mem .now) in
-    let within : (c .before .before .before .before .before .before .before .before .before .before .before .before .before .before .loop) .from ≤ rows = omega (arith, (c .before .before .before .before .before .before .before .before .before .before .before .before .before .before .loop) .inv .0, (c .before .before .before .before .before .before .before .before .before .before .before .before .before .loop-test) .taken) in
     let here = (c .before .before .before .before .before .before .before .before .before .before .before .next-at-zero) .result in
-    let g = subst (λ (n : ℕ). Adding t (messagesIn (a .active)) 256 visit (isRoot t) (a .active) hi (a .mem .now) 0 rows n ((c .before .before .before .before .before .before .before .before .before .before .before .before .before .before .loop) .mem) ((c .before .before .before .before .before .before .before .before .before .before .before .before .before .before .loop) .count)) (sym ((c .before .before .before .before .before .before .before .before .before .before .before .next-at-zero) .ensures)) (pass-turns t (fine-in (a .state .now) ((c .before .before .before .before .before .before .before .before .before .before .before .before .before .before .before .before .before .before .before) .pre .0 .inside)) (a .services .now) (a .clock) (a .active) (a .active) hi ((c .before .before .before .before .before .before .before .before .before .before .before .before .before .before .loop) .count) (a .mem .now) ((c .before .before .before .before .before .before .before .before .before .before .before .before .before .before .loop) .mem) ((c .before .before .before .before .before .before .before .before .before .before .before .before .before .before .loop) .from) within ((c .before .before .before .before .before .before .before .before .before .before .before .before .before .before .loop) .inv .2)) in
     let found = sym ((c .before .before .before .before .before .before .before .before .before .before .next-parentless) .ensures) ∙ (c .before .before .before .before .before .before .before .before .row) .given .1 in
     let row = (c .before .before .before .before .before .before .before .before .row) .given .0 .0 in
     let bounds = sweep-bounds {S = ℕ} (λ k s. done s) (isRoot t) here rows 0 row found in
@@ -159,12 +154,9 @@ loop-less : tie.Need-loop-less Inv-loop μ-loop
 loop-less c =
     let a = (c .before .before .before .before .before .before .before .before .before .before .before .before .before .before .before .before .before .before .before) .args in
     let t = tableIn (a .state .now) in
-    let visit = Step.rootTurn t (a .services .now) (a .clock) in
     let rows = length (t .rows) in
-    let hi = length (a .mem .now) in
     let within : (c .before .before .before .before .before .before .before .before .before .before .before .before .before .before .loop) .from ≤ rows = omega (arith, (c .before .before .before .before .before .before .before .before .before .before .before .before .before .before .loop) .inv .0, (c .before .before .before .before .before .before .before .before .before .before .before .before .before .loop-test) .taken) in
     let here = (c .before .before .before .before .before .before .before .before .before .before .before .next-at-zero) .result in
-    let g = subst (λ (n : ℕ). Adding t (messagesIn (a .active)) 256 visit (isRoot t) (a .active) hi (a .mem .now) 0 rows n ((c .before .before .before .before .before .before .before .before .before .before .before .before .before .before .loop) .mem) ((c .before .before .before .before .before .before .before .before .before .before .before .before .before .before .loop) .count)) (sym ((c .before .before .before .before .before .before .before .before .before .before .before .next-at-zero) .ensures)) (pass-turns t (fine-in (a .state .now) ((c .before .before .before .before .before .before .before .before .before .before .before .before .before .before .before .before .before .before .before) .pre .0 .inside)) (a .services .now) (a .clock) (a .active) (a .active) hi ((c .before .before .before .before .before .before .before .before .before .before .before .before .before .before .loop) .count) (a .mem .now) ((c .before .before .before .before .before .before .before .before .before .before .before .before .before .before .loop) .mem) ((c .before .before .before .before .before .before .before .before .before .before .before .before .before .before .loop) .from) within ((c .before .before .before .before .before .before .before .before .before .before .before .before .before .before .loop) .inv .2)) in
     let found = sym ((c .before .before .before .before .before .before .before .before .before .before .next-parentless) .ensures) ∙ (c .before .before .before .before .before .before .before .before .row) .given .1 in
     let row = (c .before .before .before .before .before .before .before .before .row) .given .0 .0 in
     let bounds = sweep-bounds {S = ℕ} (λ k s. done s) (isRoot t) here rows 0 row found in
@@ -181,7 +173,7 @@ loop-again c =
     let hi = length (a .mem .now) in
     let within : (c .before .before .before .before .before .before .before .before .before .before .before .before .before .before .loop) .from ≤ rows = omega (arith, (c .before .before .before .before .before .before .before .before .before .before .before .before .before .before .loop) .inv .0, (c .before .before .before .before .before .before .before .before .before .before .before .before .before .loop-test) .taken) in
     let here = (c .before .before .before .before .before .before .before .before .before .before .before .next-at-zero) .result in
-    let g = subst (λ (n : ℕ). Adding t (messagesIn (a .active)) 256 visit (isRoot t) (a .active) hi (a .mem .now) 0 rows n ((c .before .before .before .before .before .before .before .before .before .before .before .before .before .before .loop) .mem) ((c .before .before .before .before .before .before .before .before .before .before .before .before .before .before .loop) .count)) (sym ((c .before .before .before .before .before .before .before .before .before .before .before .next-at-zero) .ensures)) (pass-turns t (fine-in (a .state .now) ((c .before .before .before .before .before .before .before .before .before .before .before .before .before .before .before .before .before .before .before) .pre .0 .inside)) (a .services .now) (a .clock) (a .active) (a .active) hi ((c .before .before .before .before .before .before .before .before .before .before .before .before .before .before .loop) .count) (a .mem .now) ((c .before .before .before .before .before .before .before .before .before .before .before .before .before .before .loop) .mem) ((c .before .before .before .before .before .before .before .before .before .before .before .before .before .before .loop) .from) within ((c .before .before .before .before .before .before .before .before .before .before .before .before .before .before .loop) .inv .2)) in
+    let g = pass-turns t (fine-in (a .state .now) ((c .before .before .before .before .before .before .before .before .before .before .before .before .before .before .before .before .before .before .before) .pre .0 .inside)) (a .services .now) (a .clock) (a .active) (a .active) hi ((c .before .before .before .before .before .before .before .before .before .before .before .before .before .before .loop) .count) (a .mem .now) ((c .before .before .before .before .before .before .before .before .before .before .before .before .before .before .loop) .mem) ((c .before .before .before .before .before .before .before .before .before .before .before .before .before .before .loop) .from) here ((c .before .before .before .before .before .before .before .before .before .before .before .next-at-zero) .ensures) within ((c .before .before .before .before .before .before .before .before .before .before .before .before .before .before .loop) .inv .2) in
     let found = sym ((c .before .before .before .before .before .before .before .before .before .before .next-parentless) .ensures) ∙ (c .before .before .before .before .before .before .before .before .row) .given .1 in
     let row = (c .before .before .before .before .before .before .before .before .row) .given .0 .0 in
     let after = (c .before .before .before .before .before .root-turn) .last .1 .1 .0 in

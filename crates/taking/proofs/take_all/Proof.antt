@@ -1,6 +1,6 @@
 -- `taking::take_all` meets its contract. The loop: what is left of the models without parent, from the words as they stand, is the whole from the words at first; the messages' own words stay. Assumes nothing.
 use borrow.Author.Needs.{needs}
-use Prim.Native.Nat.{ℕ, _-_}
+use Prim.Native.Nat.{_-_}
 use mathlib.Core.Path.{_≡_, sym, subst, _∙_}
 use mathlib.Core.List.{List}
 use native.Mathlib.Omega.{arith}
@@ -67,8 +67,7 @@ returns c =
     let rows = length (t .rows) in
     let before = (c .before .before .before .before .before .before .loop) .inv .1 in
     let here = (c .before .before .before .next-addressed) .result in
-    let stop = stop-bounds (isAddressed t (a .active) (a .count) ((c .before .before .before .before .before .before .loop) .mem)) ((c .before .before .before .before .before .before .loop) .from) rows (omega (arith, (c .before .before .before .before .before .before .loop) .inv .0, (c .before .before .before .before .before .loop-test) .taken)) in
-    let g = subst (λ (n : ℕ). Going t visits (hasNoParent t) (a .mem .now) rows n ((c .before .before .before .before .before .before .loop) .mem)) (sym ((c .before .before .before .next-addressed) .ensures)) (pass-rows t (a .services .now) (a .clock) (a .active) (a .count) (a .mem .now) ((c .before .before .before .before .before .before .loop) .mem) ((c .before .before .before .before .before .before .before .before .before .before .before) .pre .1) ((c .before .before .before .before .before .before .loop) .from) (omega (arith, (c .before .before .before .before .before .before .loop) .inv .0, (c .before .before .before .before .before .loop-test) .taken)) before) in
+    let g = pass-rows t (a .services .now) (a .clock) (a .active) (a .count) (a .mem .now) ((c .before .before .before .before .before .before .loop) .mem) ((c .before .before .before .before .before .before .before .before .before .before .before) .pre .1) ((c .before .before .before .before .before .before .loop) .from) here ((c .before .before .before .next-addressed) .ensures) (omega (arith, (c .before .before .before .before .before .before .loop) .inv .0, (c .before .before .before .before .before .loop-test) .taken)) before in
     (going-none t visits (hasNoParent t) (a .mem .now) rows here ((c .before .before .before .before .before .before .loop) .mem) g (sym ((c .before .before .next-parentless) .ensures) ∙ (c .enum-told) .given .1), g .frame)
 
 -- src/lib.rt:69:23
@@ -80,12 +79,9 @@ take-for-requires : tie.Need-take-for-requires Inv-loop μ-loop
 take-for-requires c κs =
     let a = (c .before .before .before .before .before .before .before .before .before .before .before .before .before) .args in
     let t = tableIn (a .state .now) in
-    let visits = takesAll t (a .services .now) (a .clock) (messagesIn (a .active) (a .count) (a .mem .now)) in
-    let rows = length (t .rows) in
     let before = (c .before .before .before .before .before .before .before .before .loop) .inv .1 in
     let here = (c .before .before .before .before .before .next-addressed) .result in
-    let stop = stop-bounds (isAddressed t (a .active) (a .count) ((c .before .before .before .before .before .before .before .before .loop) .mem)) ((c .before .before .before .before .before .before .before .before .loop) .from) rows (omega (arith, (c .before .before .before .before .before .before .before .before .loop) .inv .0, (c .before .before .before .before .before .before .before .loop-test) .taken)) in
-    let g = subst (λ (n : ℕ). Going t visits (hasNoParent t) (a .mem .now) rows n ((c .before .before .before .before .before .before .before .before .loop) .mem)) (sym ((c .before .before .before .before .before .next-addressed) .ensures)) (pass-rows t (a .services .now) (a .clock) (a .active) (a .count) (a .mem .now) ((c .before .before .before .before .before .before .before .before .loop) .mem) ((c .before .before .before .before .before .before .before .before .before .before .before .before .before) .pre .1) ((c .before .before .before .before .before .before .before .before .loop) .from) (omega (arith, (c .before .before .before .before .before .before .before .before .loop) .inv .0, (c .before .before .before .before .before .before .before .loop-test) .taken)) before) in
+    let g = pass-rows t (a .services .now) (a .clock) (a .active) (a .count) (a .mem .now) ((c .before .before .before .before .before .before .before .before .loop) .mem) ((c .before .before .before .before .before .before .before .before .before .before .before .before .before) .pre .1) ((c .before .before .before .before .before .before .before .before .loop) .from) here ((c .before .before .before .before .before .next-addressed) .ensures) (omega (arith, (c .before .before .before .before .before .before .before .before .loop) .inv .0, (c .before .before .before .before .before .before .before .loop-test) .taken)) before in
     let found = sym ((c .before .before .before .before .next-parentless) .ensures) ∙ (c .before .before .row) .given .1 in
     let row = (c .before .before .row) .given .0 .0 in
     let bounds = taker-bounds (a .state .now) ((c .before .before .before .before .before .before .before .before .before .before .before .before .before) .pre .0 .inside) here row found in (
@@ -115,8 +111,7 @@ returns-2 c =
     let rows = length (t .rows) in
     let before = (c .before .before .before .before .before .before .before .before .before .before .before .before .before .before .loop) .inv .1 in
     let here = (c .before .before .before .before .before .before .before .before .before .before .before .next-addressed) .result in
-    let stop = stop-bounds (isAddressed t (a .active) (a .count) ((c .before .before .before .before .before .before .before .before .before .before .before .before .before .before .loop) .mem)) ((c .before .before .before .before .before .before .before .before .before .before .before .before .before .before .loop) .from) rows (omega (arith, (c .before .before .before .before .before .before .before .before .before .before .before .before .before .before .loop) .inv .0, (c .before .before .before .before .before .before .before .before .before .before .before .before .before .loop-test) .taken)) in
-    let g = subst (λ (n : ℕ). Going t visits (hasNoParent t) (a .mem .now) rows n ((c .before .before .before .before .before .before .before .before .before .before .before .before .before .before .loop) .mem)) (sym ((c .before .before .before .before .before .before .before .before .before .before .before .next-addressed) .ensures)) (pass-rows t (a .services .now) (a .clock) (a .active) (a .count) (a .mem .now) ((c .before .before .before .before .before .before .before .before .before .before .before .before .before .before .loop) .mem) ((c .before .before .before .before .before .before .before .before .before .before .before .before .before .before .before .before .before .before .before) .pre .1) ((c .before .before .before .before .before .before .before .before .before .before .before .before .before .before .loop) .from) (omega (arith, (c .before .before .before .before .before .before .before .before .before .before .before .before .before .before .loop) .inv .0, (c .before .before .before .before .before .before .before .before .before .before .before .before .before .loop-test) .taken)) before) in
+    let g = pass-rows t (a .services .now) (a .clock) (a .active) (a .count) (a .mem .now) ((c .before .before .before .before .before .before .before .before .before .before .before .before .before .before .loop) .mem) ((c .before .before .before .before .before .before .before .before .before .before .before .before .before .before .before .before .before .before .before) .pre .1) ((c .before .before .before .before .before .before .before .before .before .before .before .before .before .before .loop) .from) here ((c .before .before .before .before .before .before .before .before .before .before .before .next-addressed) .ensures) (omega (arith, (c .before .before .before .before .before .before .before .before .before .before .before .before .before .before .loop) .inv .0, (c .before .before .before .before .before .before .before .before .before .before .before .before .before .loop-test) .taken)) before in
     let found = sym ((c .before .before .before .before .before .before .before .before .before .before .next-parentless) .ensures) ∙ (c .before .before .before .before .before .before .before .before .row) .given .1 in
     let row = (c .before .before .before .before .before .before .before .before .row) .given .0 .0 in
     let after = (c .before .before .before .before .before .take-for) .last .1 .1 .0 in
@@ -128,13 +123,7 @@ returns-2 c =
 add-from : tie.Need-add-from Inv-loop μ-loop
 add-from c =
     let a = (c .before .before .before .before .before .before .before .before .before .before .before .before .before .before .before .before .before .before) .args in
-    let t = tableIn (a .state .now) in
-    let visits = takesAll t (a .services .now) (a .clock) (messagesIn (a .active) (a .count) (a .mem .now)) in
-    let rows = length (t .rows) in
-    let before = (c .before .before .before .before .before .before .before .before .before .before .before .before .before .loop) .inv .1 in
     let here = (c .before .before .before .before .before .before .before .before .before .before .next-addressed) .result in
-    let stop = stop-bounds (isAddressed t (a .active) (a .count) ((c .before .before .before .before .before .before .before .before .before .before .before .before .before .loop) .mem)) ((c .before .before .before .before .before .before .before .before .before .before .before .before .before .loop) .from) rows (omega (arith, (c .before .before .before .before .before .before .before .before .before .before .before .before .before .loop) .inv .0, (c .before .before .before .before .before .before .before .before .before .before .before .before .loop-test) .taken)) in
-    let g = subst (λ (n : ℕ). Going t visits (hasNoParent t) (a .mem .now) rows n ((c .before .before .before .before .before .before .before .before .before .before .before .before .before .loop) .mem)) (sym ((c .before .before .before .before .before .before .before .before .before .before .next-addressed) .ensures)) (pass-rows t (a .services .now) (a .clock) (a .active) (a .count) (a .mem .now) ((c .before .before .before .before .before .before .before .before .before .before .before .before .before .loop) .mem) ((c .before .before .before .before .before .before .before .before .before .before .before .before .before .before .before .before .before .before) .pre .1) ((c .before .before .before .before .before .before .before .before .before .before .before .before .before .loop) .from) (omega (arith, (c .before .before .before .before .before .before .before .before .before .before .before .before .before .loop) .inv .0, (c .before .before .before .before .before .before .before .before .before .before .before .before .loop-test) .taken)) before) in
     let found = sym ((c .before .before .before .before .before .before .before .before .before .next-parentless) .ensures) ∙ (c .before .before .before .before .before .before .before .row) .given .1 in
     let row = (c .before .before .before .before .before .before .before .row) .given .0 .0 in
     let bounds = taker-bounds (a .state .now) ((c .before .before .before .before .before .before .before .before .before .before .before .before .before .before .before .before .before .before) .pre .0 .inside) here row found in
@@ -146,12 +135,9 @@ loop-less : tie.Need-loop-less Inv-loop μ-loop
 loop-less c =
     let a = (c .before .before .before .before .before .before .before .before .before .before .before .before .before .before .before .before .before .before) .args in
     let t = tableIn (a .state .now) in
-    let visits = takesAll t (a .services .now) (a .clock) (messagesIn (a .active) (a .count) (a .mem .now)) in
     let rows = length (t .rows) in
-    let before = (c .before .before .before .before .before .before .before .before .before .before .before .before .before .loop) .inv .1 in
     let here = (c .before .before .before .before .before .before .before .before .before .before .next-addressed) .result in
     let stop = stop-bounds (isAddressed t (a .active) (a .count) ((c .before .before .before .before .before .before .before .before .before .before .before .before .before .loop) .mem)) ((c .before .before .before .before .before .before .before .before .before .before .before .before .before .loop) .from) rows (omega (arith, (c .before .before .before .before .before .before .before .before .before .before .before .before .before .loop) .inv .0, (c .before .before .before .before .before .before .before .before .before .before .before .before .loop-test) .taken)) in
-    let g = subst (λ (n : ℕ). Going t visits (hasNoParent t) (a .mem .now) rows n ((c .before .before .before .before .before .before .before .before .before .before .before .before .before .loop) .mem)) (sym ((c .before .before .before .before .before .before .before .before .before .before .next-addressed) .ensures)) (pass-rows t (a .services .now) (a .clock) (a .active) (a .count) (a .mem .now) ((c .before .before .before .before .before .before .before .before .before .before .before .before .before .loop) .mem) ((c .before .before .before .before .before .before .before .before .before .before .before .before .before .before .before .before .before .before) .pre .1) ((c .before .before .before .before .before .before .before .before .before .before .before .before .before .loop) .from) (omega (arith, (c .before .before .before .before .before .before .before .before .before .before .before .before .before .loop) .inv .0, (c .before .before .before .before .before .before .before .before .before .before .before .before .loop-test) .taken)) before) in
     let found = sym ((c .before .before .before .before .before .before .before .before .before .next-parentless) .ensures) ∙ (c .before .before .before .before .before .before .before .row) .given .1 in
     let row = (c .before .before .before .before .before .before .before .row) .given .0 .0 in
     let bounds = taker-bounds (a .state .now) ((c .before .before .before .before .before .before .before .before .before .before .before .before .before .before .before .before .before .before) .pre .0 .inside) here row found in
@@ -166,8 +152,7 @@ loop-again c =
     let rows = length (t .rows) in
     let before = (c .before .before .before .before .before .before .before .before .before .before .before .before .before .loop) .inv .1 in
     let here = (c .before .before .before .before .before .before .before .before .before .before .next-addressed) .result in
-    let stop = stop-bounds (isAddressed t (a .active) (a .count) ((c .before .before .before .before .before .before .before .before .before .before .before .before .before .loop) .mem)) ((c .before .before .before .before .before .before .before .before .before .before .before .before .before .loop) .from) rows (omega (arith, (c .before .before .before .before .before .before .before .before .before .before .before .before .before .loop) .inv .0, (c .before .before .before .before .before .before .before .before .before .before .before .before .loop-test) .taken)) in
-    let g = subst (λ (n : ℕ). Going t visits (hasNoParent t) (a .mem .now) rows n ((c .before .before .before .before .before .before .before .before .before .before .before .before .before .loop) .mem)) (sym ((c .before .before .before .before .before .before .before .before .before .before .next-addressed) .ensures)) (pass-rows t (a .services .now) (a .clock) (a .active) (a .count) (a .mem .now) ((c .before .before .before .before .before .before .before .before .before .before .before .before .before .loop) .mem) ((c .before .before .before .before .before .before .before .before .before .before .before .before .before .before .before .before .before .before) .pre .1) ((c .before .before .before .before .before .before .before .before .before .before .before .before .before .loop) .from) (omega (arith, (c .before .before .before .before .before .before .before .before .before .before .before .before .before .loop) .inv .0, (c .before .before .before .before .before .before .before .before .before .before .before .before .loop-test) .taken)) before) in
+    let g = pass-rows t (a .services .now) (a .clock) (a .active) (a .count) (a .mem .now) ((c .before .before .before .before .before .before .before .before .before .before .before .before .before .loop) .mem) ((c .before .before .before .before .before .before .before .before .before .before .before .before .before .before .before .before .before .before) .pre .1) ((c .before .before .before .before .before .before .before .before .before .before .before .before .before .loop) .from) here ((c .before .before .before .before .before .before .before .before .before .before .next-addressed) .ensures) (omega (arith, (c .before .before .before .before .before .before .before .before .before .before .before .before .before .loop) .inv .0, (c .before .before .before .before .before .before .before .before .before .before .before .before .loop-test) .taken)) before in
     let found = sym ((c .before .before .before .before .before .before .before .before .before .next-parentless) .ensures) ∙ (c .before .before .before .before .before .before .before .row) .given .1 in
     let row = (c .before .before .before .before .before .before .before .row) .given .0 .0 in
     let after = (c .before .before .before .before .take-for) .last .1 .1 .0 in
