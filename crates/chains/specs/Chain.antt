@@ -16,7 +16,7 @@ use Rattle.rerunning.specs.Running.{simOf}
 use Rattle.storing.specs.State.{stateWords, isStored}
 use Rattle.storing.specs.Lent.{callIn, left, postIn, putIn, leftAnew, runIn, leftByRun}
 use Rattle.host.specs.Numbers.{numberOf, endNumber}
-use Rattle.promises.specs.Story.{stateThen, CapacityNone, happened, leftBy, Demand, Beyond}
+use Rattle.promises.specs.Story.{stateThen, BeginsFresh, SixElsewhere, happened, leftBy, Demand, Beyond}
 
 -- ---- the buffer after a call: `leaves` of its contract
 abbrev pub after : Call → List ℕ → List ℕ
@@ -95,5 +95,5 @@ pub record ChainDemand (state : List ℕ) (cs : List Call) (row : ℕ) (b : Batc
   pub beyond : Beyond (simOf state) cs row b
   -- in the buffer at last stands the batcher as its history in the chain makes it
   pub stands : stateAt (simOf (chain cs state) .states) row ≡ ofBatcher (stateThen b row (chainTold cs state))
-  -- "InvalidModelState never comes from it": the next call returns 6 only where the table has a processor of capacity 0
-  pub six : (c : Call) → CallFits c → returned c (chain cs state) ≡ 6 → CapacityNone (simOf state .table)
+  -- "InvalidModelState never comes from it": the next call returns 6 only where the table has a processor of capacity 0, or another batcher that did not begin in its default state
+  pub six : (c : Call) → CallFits c → returned c (chain cs state) ≡ 6 → SixElsewhere (simOf state .table) (BeginsFresh (simOf state))

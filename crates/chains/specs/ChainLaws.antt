@@ -38,8 +38,9 @@ use Rattle.posting.specs.Laying.{lentTable}
 use Rattle.posting.specs.WholeLaws.{room-for}
 use Rattle.simulation.specs.CallLaws as call
 use Rattle.host.specs.Numbers.{numberOf, endNumber}
-use Rattle.promises.specs.Story.{stateThen}
-use Rattle.promises.specs.Demand3.{Begins, Any, ends-done, post-begins, put-begins, demanded, beyond}
+use Rattle.promises.specs.Story.{stateThen, BeginsFresh, CapacityNone, leftBy}
+use Rattle.promises.specs.Demand3.{Begins, AllFresh, ends-done, fresh-begins, capacity-alone, post-fresh, put-fresh, six-elsewhere, demanded, beyond}
+use Rattle.promises.specs.Machine.{Any}
 use Rattle.chains.specs.Chain.{after, returned, told, chain, chainTold, afterPost, returnedByPost, afterPut, returnedByPut, BufferHolds, needed, ChainDemand}
 
 -- ---- a call keeps the table: an instance of `Runs.Carried`
@@ -325,7 +326,7 @@ module _ (models connectors couplings : List ℕ) where
     post-holds =
         let (passes, is) = ends-done (post-ends lentHere) (post-room .1) in
         subst (λ (words : List ℕ). BufferHolds words sim) (ap (leftAnew models connectors couplings buffer) (sym e))
-        (laid-anew buffer sim (post-room .0) passes (is-valid sim (post-begins lentHere sim (post-room .1) .valid)))
+        (laid-anew buffer sim (post-room .0) passes (is-valid sim (post-fresh lentHere sim (post-room .1) .valid)))
 
     pub post-begun : sim ≡ begun (lentTable models connectors couplings)
     post-begun = let (passes, is) = ends-done (post-ends lentHere) (post-room .1) in is ∙ ap begun (table-lent (sim .table) passes)
@@ -357,7 +358,7 @@ module _ (models connectors couplings : List ℕ) where
     put-holds =
         let (stored, room, is) = put-room in
         subst (λ (words : List ℕ). BufferHolds words sim) (ap (leftAnew models connectors couplings buffer) (sym e))
-        (laid-anew buffer sim room (ends-done (put-ends lentHere (simOf buffer)) is) (is-valid sim (put-begins lentHere (simOf buffer) sim is .valid)))
+        (laid-anew buffer sim room (ends-done (put-ends lentHere (simOf buffer)) is) (is-valid sim (put-fresh lentHere (simOf buffer) sim is .valid)))
 
     pub put-table : sim .table ≡ lentTable models connectors couplings
     put-table = table-lent (sim .table) (ends-done (put-ends lentHere (simOf buffer)) (put-room .2))
@@ -368,39 +369,54 @@ module _ (models connectors couplings : List ℕ) where
         subst (λ (start : Simulation). BufferHolds (chain cs (afterPut models connectors couplings buffer)) (calls cs start .0)) is
         (chain-holds cs (afterPut models connectors couplings buffer) stored fs)
 
--- ---- the demand, of every chain on a buffer whose simulation begins
-begins-demand : (state : List ℕ) → T (isStored state) → Begins (simOf state) → (cs : List Call) → All CallFits cs → (row : ℕ) (b : Batcher) → kindAt (simOf state .table) row ≡ batcher b
+-- ---- the demand, of every chain on a buffer that holds a simulation in which the batcher's row is in its default state, whatever the other rows hold
+six-ends : (state : List ℕ) → T (isStored state) → (cs : List Call) → All CallFits cs → (c : Call) → returned c (chain cs state) ≡ 6 → called c (leftBy (simOf state) cs) .end ≡ Refused InvalidModelState
+six-ends state stored cs fs c h =
+    let (last, is) = chain-holds cs state stored fs in
+    ap (λ (sim : Simulation). called c sim .end) (sym is) ∙ six-is (called c (simOf (chain cs state)) .end) (sym (returned-is (chain cs state) last c) ∙ h)
+
+begins-demand : (state : List ℕ) → T (isStored state) → (row : ℕ) → Begins (simOf state) row → (cs : List Call) → All CallFits cs → (b : Batcher) → kindAt (simOf state .table) row ≡ batcher b
     → ChainDemand state cs row b
-begins-demand state stored begins cs fs row b e =
+begins-demand state stored row begins cs fs b e =
     let (last, is) = chain-holds cs state stored fs in
     let tells = chain-tells cs state stored fs in
-    let d = demanded (simOf state) begins cs fs row b e in
+    let d = demanded (simOf state) row begins cs fs b e in
     record {
       holds = (last, is);
       tells = tells;
       demand = d;
-      beyond = beyond (simOf state) begins cs fs row b e;
+      beyond = beyond (simOf state) row begins cs fs b e;
       stands = ap (λ (sim : Simulation). stateAt (sim .states) row) is ∙ d .state ∙ ap (λ (log : List Happening). ofBatcher (stateThen b row log)) (sym tells);
-      six = λ c f h.
-          d .six-is-anothers c f
-          (ap (λ (sim : Simulation). called c sim .end) (sym is) ∙ six-is (called c (simOf (chain cs state)) .end) (sym (returned-is (chain cs state) last c) ∙ h));
+      six = λ c f h. d .six-is-anothers c f (six-ends state stored cs fs c h);
     }
 
--- ---- the theorems: where jt_post, or jt_put, returned 0, for every batcher row of the lent table, every chain of C calls after it keeps the batcher's promise
+pub chain-demand : (state : List ℕ) → T (isStored state) → (cs : List Call) → All CallFits cs → (row : ℕ) (b : Batcher) → kindAt (simOf state .table) row ≡ batcher b → BeginsFresh (simOf state) row → ChainDemand state cs row b
+chain-demand state stored cs fs row b e f = begins-demand state stored row (record { valid = valid-of (simOf state) (valid state stored); default = f }) cs fs b e
+
+-- ---- instances: where jt_post, or jt_put, returned 0, for every batcher row of the lent table; and 6 is then a processor's of capacity 0
+pub record ChainOfAll (state : List ℕ) (t : Table) (cs : List Call) : Type 0 where
+  pub demand : (row : ℕ) (b : Batcher) → kindAt t row ≡ batcher b → ChainDemand state cs row b
+  pub six : (c : Call) → CallFits c → returned c (chain cs state) ≡ 6 → CapacityNone t
+
+of-fresh : (state : List ℕ) (t : Table) → T (isStored state) → simOf state .table ≡ t → AllFresh (simOf state) → (cs : List Call) → All CallFits cs → ChainOfAll state t cs
+of-fresh state t stored is fresh cs fs = record {
+  demand = λ row b e. let k = ap (λ (t : Table). kindAt t row) is ∙ e in begins-demand state stored row (fresh-begins (simOf state) fresh row b k) cs fs b k;
+  six = λ c f h. subst CapacityNone is (capacity-alone (simOf state) fresh (six-elsewhere (simOf state) (fresh .valid) cs fs c f (six-ends state stored cs fs c h)));
+}
+
 module _ (models connectors couplings buffer : List ℕ) where
-  pub chain-demand : returnedByPost models connectors couplings buffer ≡ 0 → (cs : List Call) → All CallFits cs → (row : ℕ) (b : Batcher) → kindAt (lentTable models connectors couplings) row ≡ batcher b
-      → ChainDemand (afterPost models connectors couplings buffer) cs row b
-  chain-demand zero cs fs row b e =
+  pub chain-demand-post : returnedByPost models connectors couplings buffer ≡ 0 → (cs : List Call) → All CallFits cs → ChainOfAll (afterPost models connectors couplings buffer) (lentTable models connectors couplings) cs
+  chain-demand-post zero cs fs =
       let (sim, q) = zero-done (postIn models connectors couplings buffer) zero in
       let (stored, is) = post-holds models connectors couplings buffer sim q in
-      begins-demand (afterPost models connectors couplings buffer) stored (subst Begins (sym is) (post-begins (lent models connectors couplings) sim (post-room models connectors couplings buffer sim q .1))) cs fs row b
-      (ap (λ (s : Simulation). kindAt (s .table) row) (is ∙ post-begun models connectors couplings buffer sim q) ∙ e)
+      of-fresh (afterPost models connectors couplings buffer) (lentTable models connectors couplings) stored
+      (ap (λ (s : Simulation). s .table) (is ∙ post-begun models connectors couplings buffer sim q))
+      (subst AllFresh (sym is) (post-fresh (lent models connectors couplings) sim (post-room models connectors couplings buffer sim q .1))) cs fs
 
-  pub chain-demand-put : returnedByPut models connectors couplings buffer ≡ 0 → (cs : List Call) → All CallFits cs → (row : ℕ) (b : Batcher) → kindAt (lentTable models connectors couplings) row ≡ batcher b
-      → ChainDemand (afterPut models connectors couplings buffer) cs row b
-  chain-demand-put zero cs fs row b e =
+  pub chain-demand-put : returnedByPut models connectors couplings buffer ≡ 0 → (cs : List Call) → All CallFits cs → ChainOfAll (afterPut models connectors couplings buffer) (lentTable models connectors couplings) cs
+  chain-demand-put zero cs fs =
       let (sim, q) = zero-done (putIn models connectors couplings buffer) zero in
       let (stored, is) = put-holds models connectors couplings buffer sim q in
-      begins-demand (afterPut models connectors couplings buffer) stored
-      (subst Begins (sym is) (put-begins (lent models connectors couplings) (simOf buffer) sim (put-room models connectors couplings buffer sim q .2))) cs fs row b
-      (ap (λ (s : Simulation). kindAt (s .table) row) is ∙ ap (λ (t : Table). kindAt t row) (put-table models connectors couplings buffer sim q) ∙ e)
+      of-fresh (afterPut models connectors couplings buffer) (lentTable models connectors couplings) stored
+      (ap (λ (s : Simulation). s .table) is ∙ put-table models connectors couplings buffer sim q)
+      (subst AllFresh (sym is) (put-fresh (lent models connectors couplings) (simOf buffer) sim (put-room models connectors couplings buffer sim q .2))) cs fs

@@ -20,14 +20,8 @@ use Rattle.rules.specs.Step.{Out, outAt, Happening, came, went, waited, World, 
 use Rattle.rules.specs.Ends.{All, all-any, all-those, Ends, stops, goes, ends-if, ends-bind, ends-each}
 use Rattle.rules.specs.Worlds.{worldOf}
 use Rattle.promises.specs.Story.{Event, Accepted, Released, Waited, wasKept, eventOf, history, acceptedIn, accepted, sentTo}
-use Rattle.promises.specs.Machine.{history-append, if-not, if-so, another-row, this-row}
-use Rattle.promises.specs.Demand3.{Any, any-ends, ends-done}
-
-accepted-append : (xs ys : List Event) → acceptedIn (xs ++ ys) ≡ acceptedIn xs ++ acceptedIn ys
-accepted-append [] ys = refl
-accepted-append (Accepted job ∷ xs) ys = ap (λ (z : List ℕ). job ∷ z) (accepted-append xs ys)
-accepted-append (Released jobs ∷ xs) ys = accepted-append xs ys
-accepted-append (Waited a ∷ xs) ys = accepted-append xs ys
+use Rattle.promises.specs.Machine.{history-append, accepted-append, if-not, if-so, another-row, this-row, Any, any-ends}
+use Rattle.promises.specs.Demand3.{ends-done}
 
 module _ (t : Table) (services : List Float) (row : ℕ) (alone : T (isParentless (rowAt t row .parent))) where
   -- the row has accepted xs so far

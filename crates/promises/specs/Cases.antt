@@ -13,7 +13,7 @@ use Rattle.rules.specs.Base.{Outcome, refused, done, from}
 use Rattle.rules.specs.Sizes.{largestBatch}
 use Rattle.rules.specs.Table.{coupled, Row, Coupling, externalInput, internalCoupling, Table}
 use Rattle.rules.specs.Intake.{intake, passesIntake}
-use Rattle.rules.specs.Simulation.{BatcherState, State, begun, stateAt}
+use Rattle.rules.specs.Simulation.{BatcherState, State, Simulation, freshBatcher, begun, stateAt}
 use Rattle.rules.specs.Models.{Kept, service, processorExternal, processorInternal, batcherExternal, batcherInternal, stopwatchExternal, stopwatchInternal}
 use Rattle.rules.specs.Step.{outAt, Happening, came, went, waited, timer, external, internal, stepOn}
 use Rattle.rules.specs.Valid.{isValid}
@@ -21,8 +21,8 @@ use Rattle.rules.specs.Calls.{injectInput, steps, stepN, step, Call, InjectInpu
 use Rattle.rules.specs.Examples.{four, six, ten, row, within, aBatcher, aProcessor, link, batch, release, noBatch, job, ending}
 use Rattle.rules.specs.Ends.{All, nil, _&_}
 use Rattle.rules.specs.Runs.{CallFits}
-use Rattle.promises.specs.Story.{accepted, releases, stateThen, Moment, Acceptance, ahead, Leaves, happened, Demand, Within}
-use Rattle.promises.specs.Demand3.{demand-3, beyond-3}
+use Rattle.promises.specs.Story.{accepted, releases, stateThen, Moment, Acceptance, ahead, Leaves, happened, Demand, Within, AcceptsWithRoom}
+use Rattle.promises.specs.Demand3.{begun-fresh, demand-3, of-all}
 
 -- ---- tables and calls
 abbrev pub tableOf : List Row → List Coupling → Table
@@ -45,10 +45,13 @@ pub record Seen : Type 0 where
   pub state : State
   pub clock : ℕ
 
-unfoldable pub seen : Table → ℕ → List Call → Seen
-seen t i cs =
-    let r = calls cs (begun t) in
+unfoldable pub seenFrom : Simulation → ℕ → List Call → Seen
+seenFrom start i cs =
+    let r = calls cs start in
     record { accepted = accepted i (r .1); releases = releases i (r .1); state = stateAt (r .0 .states) i; clock = toBits binary64 (r .0 .clock) }
+
+abbrev pub seen : Table → ℕ → List Call → Seen
+seen t i cs = seenFrom (begun t) i cs
 
 -- five jobs at once, two more after the first release, one more after the second
 abbrev pub busy : List Call
@@ -75,6 +78,16 @@ mixed = tableOf (row 1 (aBatcher 2 ten) ∷ row 2 (aProcessor 0) ∷ []) []
 
 abbrev pub numbers : ℕ → List ℕ
 numbers n = from 1 n
+
+-- two batchers (m = 2), of which a caller hands in the second with a job: Batching with 91, 4 left of its batch time; or in Release, as none gets from its default state
+abbrev pub two : Table
+two = tableOf (row 1 (aBatcher 2 ten) ∷ row 2 (aBatcher 2 ten) ∷ []) []
+
+abbrev pub handedIn : State → Simulation
+handedIn other = record { table = two; states = noBatch ∷ other ∷ []; active = []; clock = instant; place = 0 }
+
+abbrev pub besides : List Call
+besides = sent (11 ∷ []) ++ stepped 3
 
 -- how the last of a list of calls on a new simulation ends: the number of its refusal, or 0
 unfoldable pub ends : Table → List Call → Call → ℕ
@@ -109,10 +122,16 @@ pub record Cases : Type 0 where
   pub no-count : seen largest 0 (sent (numbers 65) ++ stepped 1) ≡ record { accepted = []; releases = []; state = noBatch; clock = 0 }
   -- 6 comes from the processor of capacity 0, and the batcher before it has accepted nothing
   pub six-of-another : ends mixed (sent (11 ∷ []) ++ InjectInput (job 2 1 12) ∷ []) (Step [] 256) ≡ 6
+  -- a job handed in at the other batcher: the fresh one does as ever, and the other's job goes when its time is over
+  pub beside-held : seenFrom (handedIn (batch (91 ∷ []) four)) 0 (sent (11 ∷ []) ++ stepped 1) ≡ record { accepted = 11 ∷ []; releases = []; state = batch (11 ∷ []) ten; clock = 0 }
+  pub beside-goes : seenFrom (handedIn (batch (91 ∷ []) four)) 0 besides ≡ record { accepted = 11 ∷ []; releases = (11 ∷ []) ∷ []; state = noBatch; clock = 0x4024_0000_0000_0000 }
+  pub beside-releases : seenFrom (handedIn (batch (91 ∷ []) four)) 1 besides .releases ≡ (91 ∷ []) ∷ []
+  -- 6 from a batcher that did not begin in its default state: in Release, and one more would not fill its batch
+  pub six-handed-in : ending (called (Step [] 256) (calls (InjectInput (job 2 1 12) ∷ []) (handedIn (release [])) .0) .end) ≡ 6
   pub six-undone : seen mixed 0 (sent (11 ∷ []) ++ InjectInput (job 2 1 12) ∷ stepped 1) ≡ record { accepted = []; releases = []; state = noBatch; clock = 0 }
 
 pub cases : Cases
-unfolding isTime isTimer leastOf add sub lt le eq fits ofBits toBits service processorExternal processorInternal batcherExternal batcherInternal stopwatchExternal stopwatchInternal timer external internal stepOn intake passesIntake isValid injectInput steps stepN step called seen ends
+unfolding isTime isTimer leastOf add sub lt le eq fits ofBits toBits service processorExternal processorInternal batcherExternal batcherInternal stopwatchExternal stopwatchInternal timer external internal stepOn intake passesIntake isValid injectInput steps stepN step called seenFrom ends
 cases = record {
   c1 = refl;
   c3 = refl;
@@ -125,6 +144,10 @@ cases = record {
   no-room = refl;
   no-count = refl;
   six-of-another = refl;
+  beside-held = refl;
+  beside-goes = refl;
+  beside-releases = refl;
+  six-handed-in = refl;
   six-undone = refl;
 }
 
@@ -169,7 +192,7 @@ abbrev pub of-two : Batcher
 of-two = record { input = 1; output = 2; «max_batch_size» = 2; «max_batch_time» = ten }
 
 busy-demand : Demand (begun one) busy 0 of-two
-busy-demand = demand-3 one one-passes busy busy-fits 0 of-two refl
+busy-demand = of-all (begun one) (begun-fresh one one-passes) busy busy-fits .demand 0 of-two refl
 
 -- 13 is accepted with 2 ahead, before anything is released
 abbrev pub at-13 : Acceptance 0 (happened (begun one) busy)
@@ -219,7 +242,7 @@ abbrev pub of-three : Batcher
 of-three = record { input = 1; output = 2; «max_batch_size» = 3; «max_batch_time» = ten }
 
 growing-demand : Demand (begun pair) (growing ++ stepped 1) 0 of-three
-growing-demand = demand-3 pair pair-passes (growing ++ stepped 1) growing-fits 0 of-three refl
+growing-demand = of-all (begun pair) (begun-fresh pair pair-passes) (growing ++ stepped 1) growing-fits .demand 0 of-three refl
 
 abbrev pub at-11 : Acceptance 0 (happened (begun pair) (growing ++ stepped 1))
 at-11 = record { before = []; clock = instant; port = 1; job = 11; later = meanwhile; all = growing-log }
@@ -227,6 +250,28 @@ at-11 = record { before = []; clock = instant; port = 1; job = 11; later = meanw
 -- the moment after the first job has come: one job is held, and the timer is the batch time
 abbrev pub after-11 : Moment (happened (begun pair) (growing ++ stepped 1))
 after-11 = record { before = takes instant 0 11 ∷ []; later = meanwhile; all = growing-log }
+
+-- ---- beside a batcher that was handed in with a job: the theorem for the one that begins in its default state
+abbrev pub after-it : List Happening
+after-it = waited instant ∷ waited four ∷ gives four 1 (91 ∷ []) ∷ waited six ∷ gives ten 0 (11 ∷ []) ∷ []
+
+pub beside-log : happened (handedIn (batch (91 ∷ []) four)) besides ≡ takes instant 0 11 ∷ after-it
+unfolding isTime isTimer leastOf add sub lt le eq fits ofBits toBits service processorExternal processorInternal batcherExternal batcherInternal stopwatchExternal stopwatchInternal timer external internal stepOn intake passesIntake isValid injectInput steps stepN step called
+beside-log = refl
+
+handed-in-valid : T (isValid (handedIn (batch (91 ∷ []) four)))
+unfolding isTime isTimer le fits ofBits toBits intake passesIntake isValid
+handed-in-valid = tt
+
+besides-fit : All CallFits besides
+unfolding fits ofBits
+besides-fit = tt & tt & nil
+
+beside-demand : Demand (handedIn (batch (91 ∷ []) four)) besides 0 of-two
+beside-demand = demand-3 (handedIn (batch (91 ∷ []) four)) handed-in-valid besides besides-fit 0 of-two refl refl
+
+abbrev pub at-11-beside : Acceptance 0 (happened (handedIn (batch (91 ∷ []) four)) besides)
+at-11-beside = record { before = []; clock = instant; port = 1; job = 11; later = after-it; all = beside-log }
 
 pub record Applied : Type 0 where
   pub ahead-13 : ahead at-13 ≡ 2
@@ -240,6 +285,8 @@ pub record Applied : Type 0 where
   pub timely-11 : T (le (stateThen of-three 0 (takes instant 0 11 ∷ []) .timer) ten)
   -- the advances while 11 waits, 0, 4, 0 and 6, fit into one batch time of 10
   pub waits-11 : Within ten (instant ∷ four ∷ instant ∷ six ∷ [])
+  -- beside a batcher that was handed in with a job, 11 leaves in its batcher's first event
+  pub leaves-beside : Leaves ((11 ∷ []) ∷ []) 1 0 11 0
 
 -- each by its theorem, not by looking at the run
 pub applied : Applied
@@ -253,7 +300,8 @@ applied = record {
   leaves-23 = busy-demand .leaves at-23 (omega arith);
   held-11 = refl;
   timely-11 = growing-demand .timely after-11 (omega arith);
-  waits-11 = beyond-3 pair pair-passes (growing ++ stepped 1) growing-fits 0 of-three refl .one-batch-time at-11;
+  waits-11 = of-all (begun pair) (begun-fresh pair pair-passes) (growing ++ stepped 1) growing-fits .beyond 0 of-three refl .one-batch-time at-11;
+  leaves-beside = beside-demand .leaves at-11-beside (omega arith);
 }
 
 -- ---- what each sentence shuts out: what a wrong batcher would do in such runs, against the sentence
@@ -271,8 +319,9 @@ pub record ShutOut : Type 0 where
   -- the batch that grows, with a timer that restarts when 12 comes: 11 waits 4 and then 10
   pub restarted-timer : T (le ten six) → ⊥
   pub restarted-wait : Within ten (instant ∷ four ∷ instant ∷ ten ∷ []) → ⊥
-  -- a batcher that accepts nothing
-  pub accepts-nothing : (s : BatcherState) → _≡_ {A = Outcome BatcherState} (refused NoQueueRoom) (done s) → ⊥
+  -- a batcher that accepts nothing: it refuses every job, or takes it and keeps none
+  pub accepts-nothing : AcceptsWithRoom (λ b job s. refused NoQueueRoom) of-two freshBatcher → ⊥
+  pub keeps-nothing : AcceptsWithRoom (λ b job s. done s) of-two freshBatcher → ⊥
 
 pub shut-out : ShutOut
 unfolding le sub ofBits
@@ -285,5 +334,6 @@ shut-out = record {
   another-of-its-content = λ h. let z : _≡_ {A = ℕ} 1 0 = h .itself in omega arith;
   restarted-timer = λ t. t;
   restarted-wait = λ h. h .1 .1 .1 .0;
-  accepts-nothing = λ s e. let z : _≡_ {A = ℕ} 0 1 = cc in omega arith;
+  accepts-nothing = λ h. let e : _≡_ {A = Outcome BatcherState} (refused NoQueueRoom) (done freshBatcher) = h 11 (omega arith) .0 in let z : _≡_ {A = ℕ} 0 1 = cc in omega arith;
+  keeps-nothing = λ h. let e : _≡_ {A = List ℕ} [] (11 ∷ []) = h 11 (omega arith) .1 in let z : _≡_ {A = ℕ} 0 1 = cc in omega arith;
 }

@@ -1,12 +1,15 @@
--- Demand 3: what every batcher does under any calls on a simulation that `post` or `put` left. The theorems stand at the end. Assumes nothing.
+-- Demand 3: what a batcher that begins in its default state does under any calls on a valid simulation, whatever the other rows hold. What `post` and `put` leave are instances. The theorems stand at the end. Assumes nothing.
 use Prim.Native.Nat.{ℕ, zero, suc, _+_, _-_, _/_, _%_, _≤_, _<_}
 use mathlib.Core.Path.{_≡_, refl, sym, ap, _∙_, subst}
+use mathlib.Core.Logic.{inl, inr}
+use mathlib.Core.Bool.{Bool, false}
 use mathlib.Core.List.{List, [], _∷_, _++_, append-nil}
 use native.Mathlib.Omega.{arith}
 use lib.ListN.{length, getD, take, length-append}
 use lib.Seq.{getD-append-seam}
 use lib.Dec.{T}
 use lib.Ieee.{Float}
+use Rattle.times.specs.Time.{isNever}
 use Rattle.times.specs.Laws as law
 use Rattle.rules.specs.declared.Refusal.{Refusal}
 use Rattle.rules.specs.declared.Refusal.the-variants.{InvalidModelState, NoQueueRoom}
@@ -17,25 +20,54 @@ use Rattle.rules.specs.Sizes.{isWord, mostJobs}
 use Rattle.rules.specs.Base.{Outcome, refused, done}
 use Rattle.rules.specs.Table.{Kind, batcher, Table, kindAt}
 use Rattle.rules.specs.Intake.{Posted, intake, takenIn, passesIntake}
-use Rattle.rules.specs.Simulation.{BatcherState, State, Simulation, fresh, freshAll, freshBatcher, begun, stateAt, asBatcher}
+use Rattle.rules.specs.Simulation.{BatcherState, State, ofProcessor, ofBatcher, ofStopwatch, ofCoupled, Simulation, fresh, freshAll, freshBatcher, begun, stateAt, asBatcher}
 use Rattle.rules.specs.Models.{Kept, batcherExternal}
 use Rattle.rules.specs.Step.{Happening, came, World, externalAs, external, oneStep}
-use Rattle.rules.specs.Calls.{post, put, Call}
+use Rattle.rules.specs.Calls.{Refused, post, put, Call, called}
 use Rattle.rules.specs.Valid.{isValid}
 use Rattle.rules.specs.Ends.{All, Ends, stops, goes, ends-if, ends-bind, ends-map, ends-refused}
 use Rattle.rules.specs.Depth.{Fine, fine}
 use Rattle.rules.specs.Worlds.{worldOf}
 use Rattle.rules.specs.Runs.{Valid, valid-of, step-ends, EndsWell, CallFits, Carried, called-keeps, calls-keeps, begun-valid, fresh-at, put-valid, post-valid}
-use Rattle.promises.specs.Story.{Event, Accepted, history, joined, accepted, releases, released, doneOr, afterEvent, stateThen, Lawful, Moment, Acceptance, ahead, eventNumber, placeInIt, Comes, eventAt, Leaves, CapacityNone, happened, leftBy, Demand, advancesUntil, Within, Beyond}
-use Rattle.promises.specs.Machine.{Sized, Shape, Sound, fresh-sound, NoRoom, Took, accept-ends, accept-takes, history-sound, conserved, Goes, goes-in, counts-down, history-append, lawful-split, Told, this-row, SixIsAnothers, other-not-six, row-sized, lived-sound, ToldIn, told-closed}
+use Rattle.promises.specs.Story.{Event, Accepted, history, joined, accepted, releases, released, doneOr, afterEvent, stateThen, Lawful, Moment, Acceptance, ahead, eventNumber, placeInIt, Comes, eventAt, Leaves, BeginsFresh, CapacityNone, SixElsewhere, happened, leftBy, Demand, advancesUntil, Within, Beyond}
+use Rattle.promises.specs.Machine.{Sized, Shape, Sound, fresh-sound, NoRoom, Took, accept-ends, accept-takes, history-sound, conserved, Goes, goes-in, counts-down, history-append, lawful-split, Lived, Told, this-row, Any, any-ends, SixIsAnothers, other-not-six, row-sized, lived-sound, ToldIn, told-closed}
 
--- ---- where a run begins: a valid simulation with every model in its default state, as `post` and `put` leave one
-pub record Begins (start : Simulation) : Type 0 where
+-- ---- where a run begins: a valid simulation in which the batcher's row is in its default state
+pub record Begins (start : Simulation) (row : ℕ) : Type 0 where
   pub valid : Valid start
-  pub default : start .states ≡ freshAll (start .table)
+  pub default : BeginsFresh start row
 
-pub begun-begins : (t : Table) → T (passesIntake t) → Begins (begun t)
-begun-begins t f = record { valid = begun-valid t f; default = refl }
+-- a batcher's default state, as a test
+abbrev freshParts : BatcherPhase → Float → List ℕ → Bool
+freshParts batching.Passive timer [] = isNever timer
+freshParts batching.Passive timer (job ∷ jobs) = false
+freshParts batching.Batching timer jobs = false
+freshParts batching.Release timer jobs = false
+
+abbrev pub isFresh : State → Bool
+isFresh (ofProcessor s) = false
+isFresh (ofBatcher s) = freshParts (s .phase) (s .timer) (s .jobs)
+isFresh (ofStopwatch s) = false
+isFresh (ofCoupled parked) = false
+
+fresh-is : (s : State) → T (isFresh s) → s ≡ ofBatcher freshBatcher
+fresh-is (ofProcessor s) h = absurd h
+fresh-is (ofBatcher s) h = go (s .phase) (s .timer) (s .jobs) h
+  where
+    go : (phase : BatcherPhase) (timer : Float) (jobs : List ℕ) → T (freshParts phase timer jobs) → ofBatcher (record { phase = phase; timer = timer; jobs = jobs }) ≡ ofBatcher freshBatcher
+    go batching.Passive timer [] h = ap (λ (z : Float). ofBatcher (record { phase = batching.Passive; timer = z; jobs = [] })) (law.never-is timer h)
+    go batching.Passive timer (job ∷ jobs) h = absurd h
+    go batching.Batching timer jobs h = absurd h
+    go batching.Release timer jobs h = absurd h
+fresh-is (ofStopwatch s) h = absurd h
+fresh-is (ofCoupled parked) h = absurd h
+
+-- the rows that begin in a batcher's default state
+abbrev pub began : Simulation → ℕ → Bool
+began start i = isFresh (stateAt (start .states) i)
+
+pub began-so : (start : Simulation) (i : ℕ) → BeginsFresh start i → T (began start i)
+began-so start i e = subst (λ (s : State). T (isFresh s)) (sym e) tt
 
 pub ends-done : {A : Type 0} {B : Refusal → Type 0} {Q : A → Type 0} {o : Outcome A} {a : A} → Ends B Q o → o ≡ done a → Q a
 ends-done {A = A} {B = B} {Q = Q} {a = a} h e = go (subst (λ (z : Outcome A). Ends B Q z) e h)
@@ -43,12 +75,22 @@ ends-done {A = A} {B = B} {Q = Q} {a = a} h e = go (subst (λ (z : Outcome A). E
     go : Ends B Q (done a) → Q a
     go (goes q) = q
 
-abbrev pub Any : {A : Type 0} → A → Type 0
-Any a = Unit {0}
+-- ---- what `post` and `put` leave: every model is in its default state
+pub record AllFresh (start : Simulation) : Type 0 where
+  pub valid : Valid start
+  pub default : start .states ≡ freshAll (start .table)
 
-pub any-ends : {A : Type 0} (o : Outcome A) → Ends Any Any o
-any-ends (refused r) = stops tt
-any-ends (done a) = goes tt
+pub begun-fresh : (t : Table) → T (passesIntake t) → AllFresh (begun t)
+begun-fresh t f = record { valid = begun-valid t f; default = refl }
+
+-- so every batcher in it begins
+pub fresh-begins : (start : Simulation) → AllFresh start → (row : ℕ) (b : Batcher) → kindAt (start .table) row ≡ batcher b → Begins start row
+fresh-begins start h row b e = record { valid = h .valid; default = ap (λ (z : List State). stateAt z row) (h .default) ∙ fresh-at (start .table) row ∙ ap fresh e }
+
+-- and 6 comes from a processor of capacity 0 alone
+pub capacity-alone : (start : Simulation) → AllFresh start → SixElsewhere (start .table) (BeginsFresh start) → CapacityNone (start .table)
+capacity-alone start h (inl c) = c
+capacity-alone start h (inr (i, b, e, n)) = absurd (n (fresh-begins start h i b e .default))
 
 post-default : (p : Posted) → Ends Any (λ (s : Simulation). s .states ≡ freshAll (s .table)) (post p)
 unfolding post
@@ -59,48 +101,46 @@ unfolding put
 put-default p sim = ends-if (isValid sim) (λ v. ends-bind _ (any-ends (takenIn (intake p))) (λ t _. goes (v, refl))) (λ _. stops tt)
 
 -- what `post` answers is a new simulation of a table that passes intake
-pub post-begins : (p : Posted) (sim : Simulation) → post p ≡ done sim → Begins sim
-post-begins p sim e = record { valid = valid-of sim (ends-done (post-valid p) e); default = ends-done (post-default p) e }
+pub post-fresh : (p : Posted) (sim : Simulation) → post p ≡ done sim → AllFresh sim
+post-fresh p sim e = record { valid = valid-of sim (ends-done (post-valid p) e); default = ends-done (post-default p) e }
 
 -- and `put` answers one with all its models in the default state, whatever messages, clock and place it keeps
-pub put-begins : (p : Posted) (sim next : Simulation) → put p sim ≡ done next → Begins next
-put-begins p sim next e = let k = ends-done (put-default p sim) e in record { valid = valid-of next (ends-done (put-valid p sim (k .0)) e); default = k .1 }
+pub put-fresh : (p : Posted) (sim next : Simulation) → put p sim ≡ done next → AllFresh next
+put-fresh p sim next e = let k = ends-done (put-default p sim) e in record { valid = valid-of next (ends-done (put-valid p sim (k .0)) e); default = k .1 }
 
--- ---- a simulation that calls lead to: it is valid, of the same table, and its log tells of every batcher
-pub record Reached (t : Table) (sim : Simulation) (log : List Happening) : Type 0 where
+-- ---- a simulation that calls lead to: it is valid, of the same table, and its log tells of every batcher that began in its default state
+pub record Reached (t : Table) (since : ℕ → Bool) (sim : Simulation) (log : List Happening) : Type 0 where
   pub valid : Valid sim
   pub table : sim .table ≡ t
-  pub told : Told t log (sim .states)
+  pub told : Told t since log (sim .states)
 
-reached-forward : (t : Table) (services : List Float) (sim : Simulation) (log : List Happening) → T (isWord (length services)) → Reached t sim log
-    → Ends (SixIsAnothers t) (λ r. Reached t (r .0) (log ++ r .1)) (oneStep services sim)
-reached-forward t services sim log short h =
-    ends-map (step-ends (SixIsAnothers (sim .table)) (ToldIn (sim .table) ok log) services sim short (told-closed (sim .table) ok log) (h .valid) now) (λ r b e. subst CapacityNone (h .table) (b e))
-    (λ r k. record { valid = k .0; table = k .1 ∙ h .table; told = subst (λ (z : Table). Told z (log ++ r .1) (r .0 .states)) (h .table) (k .2) })
-  where
-    ok : Fine (sim .table)
-    ok = fine (sim .table) (h .valid .table)
+module _ (t : Table) (since : ℕ → Bool) where
+  reached-forward : (services : List Float) (sim : Simulation) (log : List Happening) → T (isWord (length services)) → Reached t since sim log
+      → Ends (SixIsAnothers t since) (λ r. Reached t since (r .0) (log ++ r .1)) (oneStep services sim)
+  reached-forward services sim log short h =
+      ends-map (step-ends (SixIsAnothers (sim .table) since) (ToldIn (sim .table) ok since log) services sim short (told-closed (sim .table) ok since log) (h .valid) now)
+      (λ r b e. subst (λ (z : Table). SixElsewhere z (λ i. T (since i))) (h .table) (b e))
+      (λ r k. record { valid = k .0; table = k .1 ∙ h .table; told = subst (λ (z : Table). Told z since (log ++ r .1) (r .0 .states)) (h .table) (k .2) })
+    where
+      ok : Fine (sim .table)
+      ok = fine (sim .table) (h .valid .table)
 
-    now : ToldIn (sim .table) ok log (worldOf sim [])
-    now = subst (λ (z : List Happening). Told (sim .table) z (sim .states)) (sym (append-nil log)) (subst (λ (z : Table). Told z log (sim .states)) (sym (h .table)) (h .told))
+      now : ToldIn (sim .table) ok since log (worldOf sim [])
+      now = subst (λ (z : List Happening). Told (sim .table) since z (sim .states)) (sym (append-nil log)) (subst (λ (z : Table). Told z since log (sim .states)) (sym (h .table)) (h .told))
 
-carried : (t : Table) → Carried (SixIsAnothers t) (Reached t)
-carried t = record {
-  other = other-not-six t;
-  valid = λ sim log h. h .valid;
-  change = λ sim next log e f g v h. record { valid = v; table = e ∙ h .table; told = subst (Told t log) (sym f) (h .told) };
-  forward = reached-forward t;
-}
+  carried : Carried (SixIsAnothers t since) (Reached t since)
+  carried = record {
+    other = other-not-six t since;
+    valid = λ sim log h. h .valid;
+    change = λ sim next log e f g v h. record { valid = v; table = e ∙ h .table; told = subst (Told t since log) (sym f) (h .told) };
+    forward = reached-forward;
+  }
 
-begins-reached : (start : Simulation) → Begins start → Reached (start .table) start []
-begins-reached start h = record {
-  valid = h .valid;
-  table = refl;
-  told = λ row b e. record { lawful = tt; state = ap (λ (z : List State). stateAt z row) (h .default) ∙ fresh-at (start .table) row ∙ ap fresh e };
-}
+starts-reached : (start : Simulation) → Valid start → Reached (start .table) (began start) start []
+starts-reached start v = record { valid = v; table = refl; told = λ row b e since. record { lawful = tt; state = fresh-is (stateAt (start .states) row) since } }
 
-pub calls-reach : (start : Simulation) → Begins start → (cs : List Call) → All CallFits cs → Reached (start .table) (leftBy start cs) (happened start cs)
-calls-reach start h cs fs = calls-keeps (SixIsAnothers (start .table)) (Reached (start .table)) (carried (start .table)) cs start [] fs (begins-reached start h)
+pub calls-reach : (start : Simulation) → Valid start → (cs : List Call) → All CallFits cs → Reached (start .table) (began start) (leftBy start cs) (happened start cs)
+calls-reach start v cs fs = calls-keeps (SixIsAnothers (start .table) (began start)) (Reached (start .table) (began start)) (carried (start .table) (began start)) cs start [] fs (starts-reached start v)
 
 -- ---- releases counted from 0, and internal events numbered from 1
 numbered : (b : Batcher) (ok : Sized b) (events : List (List ℕ)) (q r v p : ℕ) → Goes b ok events q r v p → Leaves events (q + 1) r v p
@@ -201,63 +241,85 @@ takes b ok job s good l = go (accept-ends b ok job s good)
 full-in-release : (b : Batcher) (s : BatcherState) → Sound b s → s .phase ≡ batching.Release → b .«max_batch_size» ≤ length (s .jobs)
 full-in-release b s good e = subst (λ (z : BatcherPhase). Shape z (length (s .jobs)) (b .«max_batch_size»)) e (good .shape)
 
--- in every world whose log tells of its batchers, and so in every world that a step passes through, of a step that is refused later too (`Machine.told-closed`), no event at a batcher gives 6
-pub event-never-six : (t : Table) → Fine t → (services : List Float) (w : World) (log : List Happening) → Told t log (w .states) → (row : ℕ) (b : Batcher) → kindAt t row ≡ batcher b
-    → (depth : ℕ) (clock : Float) (port job : ℕ) → external t services (suc depth) clock row port job w ≡ refused InvalidModelState → ⊥
+-- in every world whose log tells of its batchers, and so in every world that a step passes through, of a step that is refused later too (`Machine.told-closed`), no event at a batcher that began in its default state gives 6
+pub event-never-six : (t : Table) → Fine t → (since : ℕ → Bool) (services : List Float) (w : World) (log : List Happening) → Told t since log (w .states) → (row : ℕ) (b : Batcher) → kindAt t row ≡ batcher b
+    → T (since row) → (depth : ℕ) (clock : Float) (port job : ℕ) → external t services (suc depth) clock row port job w ≡ refused InvalidModelState → ⊥
 unfolding external
-event-never-six t ok services w log told row b e depth clock port job q =
+event-never-six t ok since services w log told row b e f depth clock port job q =
     ends-refused {Q = Any} {r = InvalidModelState} (subst (λ (k : Kind). Ends NotSix Any (externalAs t services k (external t services depth clock) clock row port job w)) (sym e)
     (ends-bind {Q = Any} _ (ends-map {R = Any} (accept-ends b (row-sized t ok row b e) job (asBatcher (stateAt (w .states) row)) sound) (λ r n. seven-not-six r (n .seven)) (λ _ _. tt)) (λ n _. goes tt))) q refl
   where
     sound : Sound b (asBatcher (stateAt (w .states) row))
-    sound = let l = told row b e in subst (Sound b) (sym (ap asBatcher (l .state))) (lived-sound t ok row b log e (l .lawful))
+    sound = let l = told row b e f in subst (Sound b) (sym (ap asBatcher (l .state))) (lived-sound t ok row b log e (l .lawful))
 
 -- ---- the theorems
-module _ (start : Simulation) (begins : Begins start) (cs : List Call) (fs : All CallFits cs) (row : ℕ) (b : Batcher) (is : kindAt (start .table) row ≡ batcher b) where
+-- of every valid simulation: a call is refused with 6 only where a row stands that can answer so
+pub six-elsewhere : (start : Simulation) → Valid start → (cs : List Call) → All CallFits cs → (c : Call) → CallFits c → called c (leftBy start cs) .end ≡ Refused InvalidModelState → SixElsewhere (start .table) (BeginsFresh start)
+six-elsewhere start v cs fs c f e =
+    go (subst (EndsWell Allowed) e (called-keeps Allowed (Reached (start .table) (began start)) (carried (start .table) (began start)) c (leftBy start cs) (happened start cs) f (calls-reach start v cs fs) .1) refl)
+  where
+    Allowed : Refusal → Type 0
+    Allowed = SixIsAnothers (start .table) (began start)
+
+    go : SixElsewhere (start .table) (λ i. T (began start i)) → SixElsewhere (start .table) (BeginsFresh start)
+    go (inl c) = inl c
+    go (inr (i, d, e, n)) = inr (i, d, e, λ h. n (began-so start i h))
+
+module _ (start : Simulation) (row : ℕ) (begins : Begins start row) (cs : List Call) (fs : All CallFits cs) (b : Batcher) (is : kindAt (start .table) row ≡ batcher b) where
   ok : Sized b
   ok = row-sized (start .table) (fine (start .table) (begins .valid .table)) row b is
 
-  lawful : Lawful b freshBatcher (history row (happened start cs))
-  lawful = calls-reach start begins cs fs .told row b is .lawful
+  lived : Lived b row (happened start cs) (leftBy start cs .states)
+  lived = calls-reach start (begins .valid) cs fs .told row b is (began-so start row (begins .default))
 
-  -- of every batcher row of any simulation that begins, under any calls
+  -- for every valid simulation, every batcher row of it (inside Coupleds too) that is in its default state, and every list of calls, whatever the other rows hold
   pub demanded : Demand start cs row b
   demanded = record {
-    lawful = lawful;
-    state = calls-reach start begins cs fs .told row b is .state;
-    leaves = leaving b ok row (happened start cs) lawful;
-    timely = λ n. then-sound b ok row (happened start cs) lawful n .below;
-    in-order = then-in-order b ok row (happened start cs) lawful;
-    never-six = λ n job. not-six b ok job (stateThen b row (n .before)) (then-sound b ok row (happened start cs) lawful n);
-    six-is-anothers = λ c f e.
-        subst (EndsWell (SixIsAnothers (start .table))) e
-        (called-keeps (SixIsAnothers (start .table)) (Reached (start .table)) (carried (start .table)) c (leftBy start cs) (happened start cs) f (calls-reach start begins cs fs) .1) refl;
+    lawful = lived .lawful;
+    state = lived .state;
+    leaves = leaving b ok row (happened start cs) (lived .lawful);
+    timely = λ n. then-sound b ok row (happened start cs) (lived .lawful) n .below;
+    in-order = then-in-order b ok row (happened start cs) (lived .lawful);
+    never-six = λ n job. not-six b ok job (stateThen b row (n .before)) (then-sound b ok row (happened start cs) (lived .lawful) n);
+    six-is-anothers = six-elsewhere start (begins .valid) cs fs;
   }
 
   pub beyond : Beyond start cs row b
   beyond = record {
     size = (ok .some-size, ok .most-size);
-    accepts = λ n job. takes b ok job (stateThen b row (n .before)) (then-sound b ok row (happened start cs) lawful n);
-    held-leaves = then-leaves b ok row (happened start cs) lawful;
-    release-holds = λ n. full-in-release b (stateThen b row (n .before)) (then-sound b ok row (happened start cs) lawful n);
-    at-once = λ n. then-sound b ok row (happened start cs) lawful n .at-once;
-    no-later = λ a. took b ok row (happened start cs) lawful a .no-later;
-    one-batch-time = waiting b ok row (happened start cs) lawful;
+    accepts = λ n job. takes b ok job (stateThen b row (n .before)) (then-sound b ok row (happened start cs) (lived .lawful) n);
+    held-leaves = then-leaves b ok row (happened start cs) (lived .lawful);
+    release-holds = λ n. full-in-release b (stateThen b row (n .before)) (then-sound b ok row (happened start cs) (lived .lawful) n);
+    at-once = λ n. then-sound b ok row (happened start cs) (lived .lawful) n .at-once;
+    no-later = λ a. took b ok row (happened start cs) (lived .lawful) a .no-later;
+    one-batch-time = waiting b ok row (happened start cs) (lived .lawful);
   }
 
--- for every table that passes intake, every batcher in it (inside Coupleds too), and every list of calls
-pub demand-3 : (t : Table) → T (passesIntake t) → (cs : List Call) → All CallFits cs → (row : ℕ) (b : Batcher) → kindAt t row ≡ batcher b → Demand (begun t) cs row b
-demand-3 t f cs fs row b e = demanded (begun t) (begun-begins t f) cs fs row b e
+-- as 01 has it: a simulation handed in, of which 20 has nothing to say, with that row in its default state
+pub demand-3 : (start : Simulation) → T (isValid start) → (cs : List Call) → All CallFits cs → (row : ℕ) (b : Batcher) → kindAt (start .table) row ≡ batcher b → BeginsFresh start row → Demand start cs row b
+demand-3 start v cs fs row b e f = demanded start row (record { valid = valid-of start v; default = f }) cs fs b e
 
-pub beyond-3 : (t : Table) → T (passesIntake t) → (cs : List Call) → All CallFits cs → (row : ℕ) (b : Batcher) → kindAt t row ≡ batcher b → Beyond (begun t) cs row b
-beyond-3 t f cs fs row b e = beyond (begun t) (begun-begins t f) cs fs row b e
+pub beyond-3 : (start : Simulation) → T (isValid start) → (cs : List Call) → All CallFits cs → (row : ℕ) (b : Batcher) → kindAt (start .table) row ≡ batcher b → BeginsFresh start row → Beyond start cs row b
+beyond-3 start v cs fs row b e f = beyond start row (record { valid = valid-of start v; default = f }) cs fs b e
 
--- the same from what `post` or `put` answered, up to the next of them
-pub after-post : (p : Posted) (sim : Simulation) → post p ≡ done sim → (cs : List Call) → All CallFits cs → (row : ℕ) (b : Batcher) → kindAt (sim .table) row ≡ batcher b → Demand sim cs row b
-after-post p sim q cs fs row b e = demanded sim (post-begins p sim q) cs fs row b e
+-- ---- instances: every batcher of what `post` or `put` answered, up to the next of them; and there 6 is a processor's of capacity 0
+pub record OfAll (start : Simulation) (cs : List Call) : Type 0 where
+  pub demand : (row : ℕ) (b : Batcher) → kindAt (start .table) row ≡ batcher b → Demand start cs row b
+  pub beyond : (row : ℕ) (b : Batcher) → kindAt (start .table) row ≡ batcher b → Beyond start cs row b
+  pub six : (c : Call) → CallFits c → called c (leftBy start cs) .end ≡ Refused InvalidModelState → CapacityNone (start .table)
 
-pub after-put : (p : Posted) (sim next : Simulation) → put p sim ≡ done next → (cs : List Call) → All CallFits cs → (row : ℕ) (b : Batcher) → kindAt (next .table) row ≡ batcher b → Demand next cs row b
-after-put p sim next q cs fs row b e = demanded next (put-begins p sim next q) cs fs row b e
+pub of-all : (start : Simulation) → AllFresh start → (cs : List Call) → All CallFits cs → OfAll start cs
+of-all start h cs fs = record {
+  demand = λ row b e. demanded start row (fresh-begins start h row b e) cs fs b e;
+  beyond = λ row b e. beyond start row (fresh-begins start h row b e) cs fs b e;
+  six = λ c f e. capacity-alone start h (six-elsewhere start (h .valid) cs fs c f e);
+}
+
+pub after-post : (p : Posted) (sim : Simulation) → post p ≡ done sim → (cs : List Call) → All CallFits cs → OfAll sim cs
+after-post p sim q cs fs = of-all sim (post-fresh p sim q) cs fs
+
+pub after-put : (p : Posted) (sim next : Simulation) → put p sim ≡ done next → (cs : List Call) → All CallFits cs → OfAll next cs
+after-put p sim next q cs fs = of-all next (put-fresh p sim next q) cs fs
 
 -- ---- one answer: the number of jobs ahead settles the event and the place, and these the job
 cell-one : (events : List (List ℕ)) (q q′ r r′ p : ℕ) → r < length (getD events q []) → r′ < length (getD events q′ []) → length (joined (take q events)) + r ≡ p → length (joined (take q′ events)) + r′ ≡ p → (q ≡ q′) × (r ≡ r′)

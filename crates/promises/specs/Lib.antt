@@ -6,5 +6,6 @@ pub mod Machine
 -- the theorems
 pub mod Demand3
 pub mod Arrivals
+pub mod Comes
 -- computed runs
 pub mod Cases

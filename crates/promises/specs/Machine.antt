@@ -1,6 +1,7 @@
 -- The batcher's own machine: what any lawful list of its events keeps and says. Then the lift: what a simulation's log says of each batcher row, inside Coupleds too, is such a list. Assumes nothing.
 use Prim.Native.Nat.{ℕ, zero, suc, _+_, _-_, _*_, _/_, _%_, _≤_, _<_}
 use mathlib.Core.Path.{_≡_, refl, sym, ap, _∙_, subst}
+use mathlib.Core.Logic.{inl, inr}
 use mathlib.Core.Bool.{Bool, true, false, not}
 use mathlib.Core.List.{List, [], _∷_, _++_, map, append-assoc, append-nil}
 use native.Mathlib.Omega.{arith}
@@ -18,18 +19,18 @@ use Rattle.rules.specs.declared.BatcherPhase.{BatcherPhase}
 use Rattle.rules.specs.declared.BatcherPhase.the-variants as batching
 use Rattle.rules.specs.declared.Batcher.{Batcher}
 use Rattle.rules.specs.Sizes.{mostJobs, largestBatch}
-use Rattle.rules.specs.Base.{Outcome, done, if_then_else_}
+use Rattle.rules.specs.Base.{Outcome, refused, done, if_then_else_}
 use Rattle.rules.specs.Table.{Kind, batcher, Table, kindAt}
 use Rattle.rules.specs.Intake.{kindRules}
 use Rattle.rules.specs.Simulation.{BatcherState, State, ofBatcher, ofCoupled, freshBatcher, stateAt}
 use Rattle.rules.specs.Models.{Kept, keep, joining, batcherExternal, batcherInternal}
-use Rattle.rules.specs.Step.{outAt, Happening, came, went, waited, World, noted, becomes, after}
+use Rattle.rules.specs.Step.{Out, outAt, Happening, came, went, waited, World, noted, becomes, after}
 use Rattle.rules.specs.Ends.{All, nil, _&_, Ends, stops, goes, ends-if, ends-bind, ends-map}
 use Rattle.rules.specs.Depth.{Fine}
 use Rattle.rules.specs.Least.{ownTimer}
 use Rattle.rules.specs.Kept.{Other}
 use Rattle.rules.specs.Worlds.{Closed, NotBatcher, after-at}
-use Rattle.promises.specs.Story.{Event, Accepted, Released, Waited, wasKept, contents, eventOf, history, acceptedIn, releasesIn, joined, doneOr, afterEvent, stateAfter, stateThen, LawfulEvent, Lawful, HoldsJob, CapacityNone, advancesUntil, Within}
+use Rattle.promises.specs.Story.{Event, Accepted, Released, Waited, wasKept, contents, eventOf, history, acceptedIn, releasesIn, joined, doneOr, afterEvent, stateAfter, stateThen, LawfulEvent, Lawful, HoldsJob, SixElsewhere, advancesUntil, Within}
 
 -- ---- what intake says of a batcher's row
 pub record Sized (b : Batcher) : Type 0 where
@@ -306,6 +307,12 @@ pub history-append : (row : ℕ) (xs ys : List Happening) → history row (xs ++
 history-append row [] ys = refl
 history-append row (h ∷ xs) ys = ap (λ (z : List Event). eventOf row h ++ z) (history-append row xs ys) ∙ sym (append-assoc (eventOf row h) (history row xs) (history row ys))
 
+pub accepted-append : (xs ys : List Event) → acceptedIn (xs ++ ys) ≡ acceptedIn xs ++ acceptedIn ys
+accepted-append [] ys = refl
+accepted-append (Accepted job ∷ xs) ys = ap (λ (z : List ℕ). job ∷ z) (accepted-append xs ys)
+accepted-append (Released jobs ∷ xs) ys = accepted-append xs ys
+accepted-append (Waited a ∷ xs) ys = accepted-append xs ys
+
 pub state-append : (b : Batcher) (xs ys : List Event) (s : BatcherState) → stateAfter b (xs ++ ys) s ≡ stateAfter b ys (stateAfter b xs s)
 state-append b [] ys s = refl
 state-append b (e ∷ xs) ys s = state-append b xs ys (afterEvent b e s)
@@ -318,13 +325,14 @@ pub lawful-split : (b : Batcher) (xs ys : List Event) (s : BatcherState) → Law
 lawful-split b [] ys s h = (tt, h)
 lawful-split b (e ∷ xs) ys s h = let r = lawful-split b xs ys (afterEvent b e s) (h .1) in ((h .0, r .0), r .1)
 
--- ---- what the log tells of every batcher row is lawful, and ends in its state
+-- ---- what the log tells of every batcher row that began in its default state is lawful, and ends in its state
 pub record Lived (b : Batcher) (row : ℕ) (log : List Happening) (states : List State) : Type 0 where
   pub lawful : Lawful b freshBatcher (history row log)
   pub state : stateAt states row ≡ ofBatcher (stateThen b row log)
 
-abbrev pub Told : Table → List Happening → List State → Type 0
-Told t log states = (row : ℕ) (b : Batcher) → kindAt t row ≡ batcher b → Lived b row log states
+-- `began` says which rows these are
+abbrev pub Told : Table → (ℕ → Bool) → List Happening → List State → Type 0
+Told t began log states = (row : ℕ) (b : Batcher) → kindAt t row ≡ batcher b → T (began row) → Lived b row log states
 
 -- one thing more happens, and says the events xs of the row
 more : (b : Batcher) (row : ℕ) (log : List Happening) (h : Happening) (states after : List State) (xs : List Event) → Lived b row log states → eventOf row h ≡ xs → Lawful b (stateThen b row log) xs
@@ -370,15 +378,22 @@ same-state x y e = cc
 same-row : (x y : Batcher) → batcher x ≡ batcher y → x ≡ y
 same-row x y e = cc
 
--- ---- the refusals that a step may give: 6 only where a processor of capacity 0 stands in the table
-abbrev pub SixIsAnothers : Table → Refusal → Type 0
-SixIsAnothers t r = r ≡ InvalidModelState → CapacityNone t
+-- ---- the refusals that a step may give: 6 only from another row
+abbrev pub SixIsAnothers : Table → (ℕ → Bool) → Refusal → Type 0
+SixIsAnothers t began r = r ≡ InvalidModelState → SixElsewhere t (λ i. T (began i))
 
-pub other-not-six : (t : Table) (r : Refusal) → Other r → SixIsAnothers t r
-other-not-six t r o e = absurd (subst Other e o)
+pub other-not-six : (t : Table) (began : ℕ → Bool) (r : Refusal) → Other r → SixIsAnothers t began r
+other-not-six t began r o e = absurd (subst Other e o)
 
-room-not-six : (t : Table) (s : BatcherState) (r : Refusal) → NoRoom s r → SixIsAnothers t r
-room-not-six t s r h e = absurd (let f = h .seven in let z : _≡_ {A = ℕ} 0 1 = cc in omega arith)
+room-not-six : (t : Table) (began : ℕ → Bool) (s : BatcherState) (r : Refusal) → NoRoom s r → SixIsAnothers t began r
+room-not-six t began s r h e = absurd (let f = h .seven in let z : _≡_ {A = ℕ} 0 1 = cc in omega arith)
+
+abbrev pub Any : {A : Type 0} → A → Type 0
+Any a = Unit {0}
+
+pub any-ends : {A : Type 0} (o : Outcome A) → Ends Any Any o
+any-ends (refused r) = stops tt
+any-ends (done a) = goes tt
 
 ends-known : {A : Type 0} {B : Refusal → Type 0} {Q : A → Type 0} {o : Outcome A} → Ends B Q o → Ends B (λ a. o ≡ done a) o
 ends-known (stops b) = stops b
@@ -392,26 +407,33 @@ module _ (t : Table) (ok : Fine t) where
   lived-sound row b log e h = let s = row-sized row b e in history-sound b s (history row log) freshBatcher (fresh-sound b s) h
 
   -- after the log L of the steps before
-  module _ (L : List Happening) where
+  module _ (began : ℕ → Bool) (L : List Happening) where
     abbrev pub ToldIn : World → Type 0
-    ToldIn w = Told t (L ++ w .log) (w .states)
+    ToldIn w = Told t began (L ++ w .log) (w .states)
 
-    noted-told : (h : Happening) (w : World) (states : List State) → Told t ((L ++ w .log) ++ h ∷ []) states → Told t (L ++ (w .log ++ h ∷ [])) states
-    noted-told h w states told = subst (λ (z : List Happening). Told t z states) (append-assoc L (w .log) (h ∷ [])) told
+    noted-told : (h : Happening) (w : World) (states : List State) → Told t began ((L ++ w .log) ++ h ∷ []) states → Told t began (L ++ (w .log ++ h ∷ [])) states
+    noted-told h w states told = subst (λ (z : List Happening). Told t began z states) (append-assoc L (w .log) (h ∷ [])) told
 
-    -- the row i, a batcher's, has the event e, and the happening h says so
+    abbrev Else : ℕ → ℕ → Type 0
+    Else i row = row ≡ i → ⊥
+
+    -- the happening h tells a row other than i nothing, and only the row i has another state
+    beside : (i row : ℕ) (b : Batcher) (w : World) (h : Happening) (s : State) → Else i row → eventOf row h ≡ [] → Lived b row (L ++ w .log) (w .states) → Lived b row ((L ++ w .log) ++ h ∷ []) (set (w .states) i s)
+    beside i row b w h s n q l = more b row (L ++ w .log) h (w .states) (set (w .states) i s) [] l q tt (getD-set-other (w .states) i row s (ofCoupled []) n ∙ l .state)
+
+    -- the row i, a batcher's that began in its default state, has the event e, and the happening h says so
     at-batcher : (i : ℕ) (b : Batcher) (s : BatcherState) (w : World) (h : Happening) (e : Event) → kindAt t i ≡ batcher b → stateAt (w .states) i ≡ ofBatcher s → ToldIn w
-        → ((row : ℕ) → (row ≡ i → ⊥) → eventOf row h ≡ []) → eventOf i h ≡ e ∷ [] → LawfulEvent b s e → ToldIn (noted h (becomes i (ofBatcher (afterEvent b e s)) w))
+        → ((row : ℕ) → Else i row → eventOf row h ≡ []) → eventOf i h ≡ e ∷ [] → LawfulEvent b s e → ToldIn (noted h (becomes i (ofBatcher (afterEvent b e s)) w))
     at-batcher i b s w h e k q told others this lawful = noted-told h w (set (w .states) i (ofBatcher (afterEvent b e s))) all
       where
         next : List State
         next = set (w .states) i (ofBatcher (afterEvent b e s))
 
-        all : Told t ((L ++ w .log) ++ h ∷ []) next
-        all row b′ k′ = go (eqb row i) (eqb→eq row i) (λ f c. T-not (eqb row i) f (subst (λ (z : ℕ). T (eqb row z)) c (eqb-refl row)))
+        all : Told t began ((L ++ w .log) ++ h ∷ []) next
+        all row b′ k′ since = go (eqb row i) (eqb→eq row i) (λ f c. T-not (eqb row i) f (subst (λ (z : ℕ). T (eqb row z)) c (eqb-refl row)))
           where
             l : Lived b′ row (L ++ w .log) (w .states)
-            l = told row b′ k′
+            l = told row b′ k′ since
 
             -- at the row itself
             own : (row : ℕ) (b′ : Batcher) → row ≡ i → b ≡ b′ → s ≡ stateThen b′ row (L ++ w .log) → Lived b′ row (L ++ w .log) (w .states) → Lived b′ row ((L ++ w .log) ++ h ∷ []) next
@@ -421,41 +443,76 @@ module _ (t : Table) (ok : Fine t) where
                 (subst (λ (z : ℕ). stateAt next z ≡ ofBatcher (afterEvent b e s)) (sym c) (getD-set-same (w .states) i (ofBatcher (afterEvent b e s)) (ofCoupled []) (in-range (w .states) i s q))
                 ∙ ap (λ (z : Batcher). ofBatcher (afterEvent z e s)) d ∙ ap (λ (z : BatcherState). ofBatcher (afterEvent b′ e z)) f)
 
-            go : (x : Bool) → (T x → row ≡ i) → (T (not x) → row ≡ i → ⊥) → Lived b′ row ((L ++ w .log) ++ h ∷ []) next
+            go : (x : Bool) → (T x → row ≡ i) → (T (not x) → Else i row) → Lived b′ row ((L ++ w .log) ++ h ∷ []) next
             go true f g =
                 let c = f tt in
                 own row b′ c (same-row b b′ (sym k ∙ ap (kindAt t) (sym c) ∙ k′)) (same-state s (stateThen b′ row (L ++ w .log)) (sym q ∙ ap (stateAt (w .states)) (sym c) ∙ l .state)) l
-            go false f g = more b′ row (L ++ w .log) h (w .states) next [] l (others row (g tt)) tt (getD-set-other (w .states) i row (ofBatcher (afterEvent b e s)) (ofCoupled []) (g tt) ∙ l .state)
+            go false f g = beside i row b′ w h (ofBatcher (afterEvent b e s)) (g tt) (others row (g tt)) l
+
+    -- a batcher row that began otherwise gets any state: nothing is told of it
+    at-another : (i : ℕ) (s : State) (w : World) (h : Happening) → (T (began i) → ⊥) → ToldIn w → ((row : ℕ) → Else i row → eventOf row h ≡ []) → ToldIn (noted h (becomes i s w))
+    at-another i s w h n told others =
+        noted-told h w (set (w .states) i s)
+        (λ row b e since. let d : Else i row = λ q. n (subst (λ (z : ℕ). T (began z)) q since) in beside i row b w h s d (others row d) (told row b e since))
 
     -- a happening at another kind of row tells a batcher nothing
     quiet : (h : Happening) (w : World) → ((row : ℕ) (b : Batcher) → kindAt t row ≡ batcher b → eventOf row h ≡ []) → ToldIn w → ToldIn (noted h w)
-    quiet h w none told = noted-told h w (w .states) (λ row b e. let l = told row b e in more b row (L ++ w .log) h (w .states) (w .states) [] l (none row b e) tt (l .state))
+    quiet h w none told = noted-told h w (w .states) (λ row b e since. let l = told row b e since in more b row (L ++ w .log) h (w .states) (w .states) [] l (none row b e) tt (l .state))
 
-    pub told-closed : Closed t (SixIsAnothers t) ToldIn
+    came-else : (clock : Float) (i port content row : ℕ) → Else i row → eventOf row (came clock i port content Kept) ≡ []
+    came-else clock i port content row d = another-row row i (Accepted content ∷ []) d
+
+    went-else : (clock : Float) (i : ℕ) (out : List Out) (row : ℕ) → Else i row → eventOf row (went clock i out) ≡ []
+    went-else clock i out row d = another-row row i (Released (contents out) ∷ []) d
+
+    takes-in : (clock : Float) (i port content : ℕ) (b : Batcher) (s : BatcherState) (w : World) → kindAt t i ≡ batcher b → stateAt (w .states) i ≡ ofBatcher s → ToldIn w
+        → Ends (SixIsAnothers t began) (λ n. ToldIn (noted (came clock i port content Kept) (becomes i (ofBatcher n) w))) (batcherExternal b content s)
+    takes-in clock i port content b s w e q told = go (began i) refl
+      where
+        known : T (began i) → Ends (SixIsAnothers t began) (λ n. ToldIn (noted (came clock i port content Kept) (becomes i (ofBatcher n) w))) (batcherExternal b content s)
+        known since =
+            let l = told i b e since in
+            let sound : Sound b s = subst (Sound b) (same-state (stateThen b i (L ++ w .log)) s (sym (l .state) ∙ q)) (lived-sound i b (L ++ w .log) e (l .lawful)) in
+            ends-map (ends-known (accept-ends b (row-sized i b e) content s sound)) (room-not-six t began s)
+            (λ n k. let took : afterEvent b (Accepted content) s ≡ n = ap (doneOr s) k in
+            subst (λ (z : BatcherState). ToldIn (noted (came clock i port content Kept) (becomes i (ofBatcher z) w))) took
+            (at-batcher i b s w (came clock i port content Kept) (Accepted content) e q told (came-else clock i port content) (this-row i (Accepted content ∷ []))
+            (k ∙ ap done (sym took))))
+
+        go : (x : Bool) → began i ≡ x → Ends (SixIsAnothers t began) (λ n. ToldIn (noted (came clock i port content Kept) (becomes i (ofBatcher n) w))) (batcherExternal b content s)
+        go true x = known (subst T (sym x) tt)
+        go false x =
+            let n : (T (began i) → ⊥) = λ h. subst T x h in
+            ends-map (any-ends (batcherExternal b content s)) (λ r _ _. inr (i, b, e, n)) (λ s₁ _. at-another i (ofBatcher s₁) w (came clock i port content Kept) n told (came-else clock i port content))
+
+    gives-out : (clock : Float) (i : ℕ) (b : Batcher) (s : BatcherState) (w : World) → kindAt t i ≡ batcher b → stateAt (w .states) i ≡ ofBatcher s → ToldIn w
+        → ToldIn (noted (went clock i (map (outAt (b .output)) (batcherInternal b s .1))) (becomes i (ofBatcher (batcherInternal b s .0)) w))
+    gives-out clock i b s w e q told = go (began i) refl
+      where
+        out : List Out
+        out = map (outAt (b .output)) (batcherInternal b s .1)
+
+        go : (x : Bool) → began i ≡ x → ToldIn (noted (went clock i out) (becomes i (ofBatcher (batcherInternal b s .0)) w))
+        go true x =
+            at-batcher i b s w (went clock i out) (Released (contents out)) e q told (went-else clock i out) (this-row i (Released (contents out) ∷ []))
+            (contents-back (b .output) (batcherInternal b s .1))
+        go false x = at-another i (ofBatcher (batcherInternal b s .0)) w (went clock i out) (λ h. subst T x h) told (went-else clock i out)
+
+    pub told-closed : Closed t (SixIsAnothers t began) ToldIn
     told-closed = record {
-      other = other-not-six t;
-      six = λ i p e c q. (i, p, e, c);
-      put-other = λ i s place w n told row b e.
-          let l = told row b e in
+      other = other-not-six t began;
+      six = λ i p e c q. inl (i, p, e, c);
+      put-other = λ i s place w n told row b e since.
+          let l = told row b e since in
           record { lawful = l .lawful; state = getD-set-other (w .states) i row s (ofCoupled []) (apart t i row b n e) ∙ l .state };
       came-other = λ clock i port content fate w c n told.
           quiet (came clock i port content fate) w (λ row b e. another-row row i (if wasKept fate then Accepted content ∷ [] else []) (apart t i row b n e)) told;
       went-other = λ clock i out w c n told. quiet (went clock i out) w (λ row b e. another-row row i (Released (contents out) ∷ []) (apart t i row b n e)) told;
-      took = λ clock i port content b s w c e q good told.
-          let l = told i b e in
-          let sound : Sound b s = subst (Sound b) (same-state (stateThen b i (L ++ w .log)) s (sym (l .state) ∙ q)) (lived-sound i b (L ++ w .log) e (l .lawful)) in
-          ends-map (ends-known (accept-ends b (row-sized i b e) content s sound)) (room-not-six t s)
-          (λ n k. let took : afterEvent b (Accepted content) s ≡ n = ap (doneOr s) k in
-          subst (λ (z : BatcherState). ToldIn (noted (came clock i port content Kept) (becomes i (ofBatcher z) w))) took
-          (at-batcher i b s w (came clock i port content Kept) (Accepted content) e q told (λ row d. another-row row i (Accepted content ∷ []) d) (this-row i (Accepted content ∷ []))
-          (k ∙ ap done (sym took))));
-      gave = λ clock i b s w c e q good told.
-          let out = map (outAt (b .output)) (batcherInternal b s .1) in
-          at-batcher i b s w (went clock i out) (Released (contents out)) e q told (λ row d. another-row row i (Released (contents out) ∷ []) d) (this-row i (Released (contents out) ∷ []))
-          (contents-back (b .output) (batcherInternal b s .1));
+      took = λ clock i port content b s w c e q good told. takes-in clock i port content b s w e q told;
+      gave = λ clock i b s w c e q good told. gives-out clock i b s w e q told;
       aged = λ a w good u below told.
           noted-told (waited a) w (map (after a) (w .states))
-          (λ row b e. let l = told row b e in
+          (λ row b e since. let l = told row b e since in
           more b row (L ++ w .log) (waited a) (w .states) (map (after a) (w .states)) (Waited a ∷ []) l refl
           ((u, subst (λ (z : State). T (le a (ownTimer z))) (l .state) (below row)), tt)
           (after-at a (w .states) row ∙ ap (after a) (l .state)));

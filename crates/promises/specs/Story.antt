@@ -2,6 +2,7 @@
 -- Each definition up to the demand is a function of the log, so it has one answer; the log is the one that the rules give (`rules/Step.Happening`), and no rule reads it (`rules/Ghost`).
 use Prim.Native.Nat.{ℕ, zero, suc, _+_, _-_, _/_, _%_, _≤_, _<_}
 use mathlib.Core.Path.{_≡_}
+use mathlib.Core.Logic.{_⊎_}
 use mathlib.Core.Bool.{Bool, true, false}
 use mathlib.Core.List.{List, [], _∷_, _++_, map}
 use lib.ListN.{length, getD, take}
@@ -15,7 +16,7 @@ use Rattle.rules.specs.declared.Batcher.{Batcher}
 use Rattle.rules.specs.declared.Message.{Message}
 use Rattle.rules.specs.Sizes.{mostJobs, largestBatch}
 use Rattle.rules.specs.Base.{Outcome, refused, done, if_then_else_, those}
-use Rattle.rules.specs.Table.{Table, processor, idAt, kindAt}
+use Rattle.rules.specs.Table.{Table, processor, batcher, idAt, kindAt}
 use Rattle.rules.specs.Simulation.{BatcherState, ofBatcher, Simulation, freshBatcher, stateAt}
 use Rattle.rules.specs.Models.{Fate, Started, Kept, Dropped, Marked, Asked, Passed, batcherExternal, batcherInternal}
 use Rattle.rules.specs.Step.{Out, Happening, came, went, waited}
@@ -76,6 +77,13 @@ releases row log = releasesIn (history row log)
 -- all jobs ever released, in the order of release
 abbrev pub released : ℕ → List Happening → List ℕ
 released row log = joined (releases row log)
+
+-- all that comes to the row, whatever becomes of it
+abbrev pub cameTo : ℕ → List Happening → List ℕ
+cameTo row [] = []
+cameTo row (came clock i port content fate ∷ log) = (if eqb i row then content ∷ [] else []) ++ cameTo row log
+cameTo row (went clock i out ∷ log) = cameTo row log
+cameTo row (waited advance ∷ log) = cameTo row log
 
 -- what a step brings to a parentless row: the contents of the active messages with its id, in list order
 abbrev pub sentTo : Table → ℕ → List Message → List ℕ
@@ -152,9 +160,17 @@ pub record Leaves (events : List (List ℕ)) (number place job ahead : ℕ) : Ty
 abbrev pub HoldsJob : BatcherState → Type 0
 HoldsJob s = 1 ≤ length (s .jobs)
 
+-- "from its default state", of one row; the other rows may hold anything that 20 lets pass
+abbrev pub BeginsFresh : Simulation → ℕ → Type 0
+BeginsFresh start row = stateAt (start .states) row ≡ ofBatcher freshBatcher
+
 -- a processor of capacity 0, which answers a job with 6 (C5)
 abbrev pub CapacityNone : Table → Type 0
 CapacityNone t = (i : ℕ) × (p : Processor) × (kindAt t i ≡ processor p) × (p .«queue_capacity» ≡ 0)
+
+-- who else can answer a job with 6: such a processor, or a batcher that did not begin as it should (one that was handed in, in Release with h + 1 < m)
+abbrev pub SixElsewhere : Table → (ℕ → Type 0) → Type 0
+SixElsewhere t Begins = CapacityNone t ⊎ ((i : ℕ) × (b : Batcher) × (kindAt t i ≡ batcher b) × (Begins i → ⊥))
 
 -- all that happened in the calls cs on the simulation `start`, each handed the simulation that the one before left, and the simulation that they leave. What a refused step did is undone and not in the log: "refused steps don't count".
 abbrev pub happened : Simulation → List Call → List Happening
@@ -177,8 +193,8 @@ pub record Demand (start : Simulation) (cs : List Call) (row : ℕ) (b : Batcher
   pub in-order : (n : Moment (happened start cs)) → released row (n .before) ++ stateThen b row (n .before) .jobs ≡ accepted row (n .before)
   -- "InvalidModelState never comes from it": at no moment, whatever job comes
   pub never-six : (n : Moment (happened start cs)) (job : ℕ) → batcherExternal b job (stateThen b row (n .before)) ≡ refused InvalidModelState → ⊥
-  -- and the next call is refused with 6 only where the table has a processor of capacity 0
-  pub six-is-anothers : (c : Call) → CallFits c → called c (leftBy start cs) .end ≡ Refused InvalidModelState → CapacityNone (start .table)
+  -- and the next call is refused with 6 only where the table has a processor of capacity 0, or another batcher that did not begin in its default state
+  pub six-is-anothers : (c : Call) → CallFits c → called c (leftBy start cs) .end ≡ Refused InvalidModelState → SixElsewhere (start .table) (BeginsFresh start)
 
 -- ---- beyond the demand: why nothing old waits for something new, and that nothing above is empty
 -- the advances of the timers up to the next internal event after `passed` of them, or all if it does not come
@@ -194,13 +210,18 @@ abbrev pub Within : Float → List Float → Type 0
 Within time [] = Unit {0}
 Within time (advance ∷ more) = T (le advance time) × Within (sub binary64 time advance) more
 
+-- a batcher's rule for a job that comes, and what is asked of it: with room for one more it accepts any job, behind all that it holds
+abbrev pub Rule : Type 0
+Rule = Batcher → ℕ → BatcherState → Outcome BatcherState
+
+abbrev pub AcceptsWithRoom : Rule → Batcher → BatcherState → Type 0
+AcceptsWithRoom rule b s = (job : ℕ) → length (s .jobs) + 1 ≤ mostJobs → (rule b job s ≡ done (doneOr s (rule b job s))) × (doneOr s (rule b job s) .jobs ≡ s .jobs ++ job ∷ [])
+
 pub record Beyond (start : Simulation) (cs : List Call) (row : ℕ) (b : Batcher) : Type 0 where
   -- "a batcher of maximum size m, 1 to 2^62"
   pub size : (1 ≤ b .«max_batch_size») × (b .«max_batch_size» ≤ largestBatch)
-  -- with room for one more it accepts any job, behind all that it holds
-  pub accepts : (n : Moment (happened start cs)) (job : ℕ) → length (stateThen b row (n .before) .jobs) + 1 ≤ mostJobs
-      → (batcherExternal b job (stateThen b row (n .before)) ≡ done (afterEvent b (Accepted job) (stateThen b row (n .before))))
-      × (afterEvent b (Accepted job) (stateThen b row (n .before)) .jobs ≡ stateThen b row (n .before) .jobs ++ job ∷ [])
+  -- at every moment it accepts while there is room
+  pub accepts : (n : Moment (happened start cs)) → AcceptsWithRoom batcherExternal b (stateThen b row (n .before))
   -- what is said of a job at its acceptance holds at every moment while it is held: behind p others, it leaves in internal event number (p div m) + 1 from then on, at place p mod m
   pub held-leaves : (n : Moment (happened start cs)) (p : ℕ) → p < length (stateThen b row (n .before) .jobs) → Comes (eventNumber (b .«max_batch_size») p) (releases row (n .later))
       → Leaves (releases row (n .later)) (eventNumber (b .«max_batch_size») p) (placeInIt (b .«max_batch_size») p) (getD (stateThen b row (n .before) .jobs) p 0) p
