@@ -1,23 +1,18 @@
 -- What comes to a batcher is accepted, in order, and nothing else is: in any calls on a valid simulation, of every batcher row, inside Coupleds too, whatever it holds at first. Assumes nothing.
 use Prim.Native.Nat.{ℕ}
-use mathlib.Core.Path.{_≡_, refl, sym, ap, _∙_, subst}
+use mathlib.Core.Path.{_≡_, refl, ap, _∙_, subst}
 use mathlib.Core.Bool.{Bool, true, false}
-use mathlib.Core.List.{List, [], _∷_, _++_, append-nil}
-use lib.ListN.{length}
+use mathlib.Core.List.{List, [], _∷_, _++_}
 use lib.Dec.{T, eqb, eqb→eq}
-use lib.Ieee.{Float}
-use Rattle.rules.specs.declared.Refusal.{Refusal}
 use Rattle.rules.specs.declared.Batcher.{Batcher}
-use Rattle.rules.specs.Sizes.{isWord}
 use Rattle.rules.specs.Base.{if_then_else_}
-use Rattle.rules.specs.Table.{Kind, batcher, Table, kindAt}
+use Rattle.rules.specs.Table.{batcher, Table, kindAt}
 use Rattle.rules.specs.Simulation.{Simulation}
 use Rattle.rules.specs.Models.{Fate, Kept, batcherExternal}
-use Rattle.rules.specs.Step.{Happening, came, went, waited, World, oneStep}
+use Rattle.rules.specs.Step.{Happening, came, went, waited, World}
 use Rattle.rules.specs.Calls.{Call}
 use Rattle.rules.specs.Valid.{isValid}
-use Rattle.rules.specs.Ends.{All, nil, _&_, all-append, Ends, ends-map}
-use Rattle.rules.specs.Depth.{fine}
+use Rattle.rules.specs.Ends.{All, nil, _&_, all-append, ends-map}
 use Rattle.rules.specs.Worlds.{Closed, NotBatcher}
 use Rattle.rules.specs.Runs.{Valid, valid-of, step-ends, CallFits, Carried, calls-keeps}
 use Rattle.promises.specs.Story.{Accepted, Released, wasKept, contents, eventOf, history, acceptedIn, accepted, cameTo, happened}
