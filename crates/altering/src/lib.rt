@@ -12,6 +12,7 @@ ghost use Rattle.rerunning.specs.Running.{simOf};
 ghost use Rattle.storing.specs.State.{kept, isStored};
 ghost use Rattle.altering.specs.Altered.{withMessage};
 
+// No message is active any more.
 pub fn reset_messages(state: &mut [u64])
     requires { ⌜ T (isStored (now state)) ⌝ }
     ensures { λ _. ⌜ now (state .exit) ≡ kept (now (state .entry)) (withoutMessages (simOf (now (state .entry)))) ⌝ }
@@ -20,6 +21,7 @@ pub fn reset_messages(state: &mut [u64])
     state[tail] = 0;
 }
 
+// The clock is 0.
 pub fn reset_global_time(state: &mut [u64])
     requires { ⌜ T (isStored (now state)) ⌝ }
     ensures { λ _. ⌜ now (state .exit) ≡ kept (now (state .entry)) (atClockZero (simOf (now (state .entry)))) ⌝ }
@@ -28,7 +30,7 @@ pub fn reset_global_time(state: &mut [u64])
     state[clock] = 0;
 }
 
-// Both: the clock's word and the count of messages.
+// No message is active any more, and the clock is 0.
 pub fn reset(state: &mut [u64])
     requires { ⌜ T (isStored (now state)) ⌝ }
     ensures { λ _. ⌜ now (state .exit) ≡ kept (now (state .entry)) (atClockZero (withoutMessages (simOf (now (state .entry))))) ⌝ }
@@ -70,7 +72,7 @@ fn words_of(message: Message) -> [u64; 6]
     ]
 }
 
-// The message behind the active ones.
+// One more message behind the active ones.
 pub fn inject_input(state: &mut [u64], message: Message)
     requires { ⌜ T (isStored (now state)) × (length (simOf (now state) .active) < 256) ⌝ }
     ensures { λ _. ⌜ now (state .exit) ≡ kept (now (state .entry)) (withMessage message (simOf (now (state .entry)))) ⌝ }

@@ -39,7 +39,7 @@ pub fn get_global_time(state: &[u64]) -> f64
     stepping::clock_at(&state[tail..])
 }
 
-// The active messages as rows of the output, which has room for them; how many they are.
+// Writes the active messages as rows of the output, which has room for them; how many they are.
 pub fn get_messages(state: &[u64], rows: &mut [u64]) -> usize
     requires { ⌜ T (isStored (now state)) × (length (simOf (now state) .active) * 6 ≤ length (now rows)) ⌝ }
     ensures counts { λ r. ⌜ r ≡ length (simOf (now (state .entry)) .active) ⌝ }
@@ -74,6 +74,7 @@ fn processor_phase(phase: u64) -> ProcessorPhase
     }
 }
 
+// A batcher's phase by its word.
 fn batcher_phase(phase: u64) -> BatcherPhase
     ensures { λ r. ⌜ r ≡ batchingOf phase ⌝ }
 {
@@ -111,7 +112,7 @@ fn status_at(state: &[u64], row: usize) -> Status
     status_in(state, &state[tail..], row)
 }
 
-// The models without parent are looked at in row order.
+// The status of the model without parent that has this id, or 4. They are looked at in row order.
 pub fn get_status(state: &[u64], id: u16) -> Status
     requires { ⌜ T (isStored (now state)) ⌝ }
     ensures { λ r. ⌜ r ≡ statusAnswered (Calls.getStatus id (simOf (now (state .entry)))) ⌝ }

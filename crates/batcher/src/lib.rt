@@ -54,7 +54,7 @@ impl BatcherState {
         }
     }
 
-    // What 20 asks of the state and the row.
+    // Whether the state and the row are what 20 asks.
     pub fn fits(self, row: Batcher) -> bool
         ensures { λ r. ⌜ ((queue : List ℕ) → length queue ≡ self .held → T (every isContent queue) → r ≡ Valid.modelFits (Table.batcher row) (Simulation.ofBatcher (batcherOf self queue))) ⌝ }
     {
@@ -99,7 +99,7 @@ impl BatcherState {
         }
     }
 
-    // A job comes. That h + 1 is below m is asked without a sum that could wrap.
+    // A job comes: 01's rule alone. That h + 1 is below m is asked without a sum that could wrap.
     pub fn external_rule(self, row: Batcher) -> BatcherTaken
         ensures { λ r. ⌜ ((queue : List ℕ) (job : ℕ) → length queue ≡ self .held → Took self queue job r (Models.batcherExternal row job (batcherOf self queue))) ⌝ }
     {
@@ -118,7 +118,7 @@ impl BatcherState {
         }
     }
 
-    // The timer has run out. That 2m is at most h is asked without a product that could wrap.
+    // The timer has run out: 01's rule alone. That 2m is at most h is asked without a product that could wrap.
     pub fn internal_rule(self, row: Batcher) -> BatcherGone
         ensures { λ r. ⌜ ((queue : List ℕ) → length queue ≡ self .held → Went self queue r (done (Models.batcherInternal row (batcherOf self queue)))) ⌝ }
     {

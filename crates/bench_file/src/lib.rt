@@ -236,7 +236,7 @@ fn wrong(line: u64, expected: Expected) -> Reading
     Reading::Wrong { line, expected }
 }
 
-// Reads a bench file. Each slice is lent for the rows of one kind: models of 10 words, connectors of 4, couplings of 6, service times
+// Reads a bench file: how many rows of each kind, or the wrong line and what was expected there. Each slice is lent for the rows of one kind: models of 10 words, connectors of 4, couplings of 6, service times
 // of 1, actions of 7. Rows go from its start on, and what is beyond them stays as it was. Where a line is wrong, the rows of the
 // lines before it are written.
 pub fn read(

@@ -520,7 +520,7 @@ fn ended(item: Item, progress: Progress) -> Line
     }
 }
 
-// What a line says.
+// What a line says: its item with the cells of its row, or what was expected.
 pub fn read_line(line: &[u8]) -> Line
     ensures { λ r. ⌜ r ≡ readLine (now (line .entry)) ⌝ }
 {

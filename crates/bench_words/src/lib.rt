@@ -98,7 +98,7 @@ fn word_end(line: &[u8], from: usize) -> usize
     skip_plain(line, from)
 }
 
-// The next word of a line from `from` on.
+// Where the next word of a line stands, from `from` on.
 pub fn next_word(line: &[u8], from: usize) -> Span
     ensures { λ r. ⌜ r ≡ wordAt (now (line .entry)) from ⌝ }
 {
@@ -156,7 +156,7 @@ fn digits(word: &[u8], from: usize, base: u64, most: u64) -> Number
     Number::Is(value)
 }
 
-// A whole number of at most `most`, in decimal digits.
+// A whole number of at most `most`, in decimal digits; or Not.
 pub fn number_of(word: &[u8], most: u64) -> Number
     ensures { λ r. ⌜ r ≡ numberOf most (now (word .entry)) ⌝ }
 {
@@ -179,7 +179,7 @@ fn has_bits(word: &[u8]) -> bool
     word[1] == b'x'
 }
 
-// The bits of a time: those of a whole number of at most 2^53, or those that `0x` and 16 digits say.
+// The bits of a time: those of a whole number of at most 2^53, or those that `0x` and 16 digits say; or Not.
 pub fn time_of(word: &[u8]) -> Number
     ensures { λ r. ⌜ r ≡ timeOf (now (word .entry)) ⌝ }
 {

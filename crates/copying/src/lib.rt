@@ -14,7 +14,7 @@ ghost use Rattle.lookup.specs.Inside.{Inside, tableIn};
 ghost use Rattle.copying.specs.Copied.{copied};
 ghost use Rattle.copying.specs.Sparing.{Brought, Alike, Lends};
 
-// n words of src, from `start` on, to the start of dst.
+// n words of src, from `start` on, to the start of dst. All beyond stays.
 pub fn copy(dst: &mut [u64], src: &[u64], start: usize, n: usize)
     requires { ⌜ (start + n ≤ length (now src)) × (n ≤ length (now dst)) ⌝ }
     ensures { λ _. ⌜ now (dst .exit) ≡ copied start n (now (src .entry)) (now (dst .entry)) ⌝ }
@@ -26,7 +26,7 @@ pub fn copy(dst: &mut [u64], src: &[u64], start: usize, n: usize)
     }
 }
 
-// The `count` messages that stand from `active` on, as rows of an output.
+// The `count` messages that stand from `active` on, as rows from the start of an output. All beyond stays.
 pub fn lay_down(rows: &mut [u64], mem: &[u64], active: usize, count: usize)
     requires { ⌜ (count ≤ 256) × (active + 1536 ≤ length (now mem)) × (count * 6 ≤ length (now rows)) × All MessageFits (messagesIn active count (now mem)) ⌝ }
     ensures { λ _. ⌜ now (rows .exit) ≡ laidDown (messagesIn active count (now (mem .entry))) (now (rows .entry)) ⌝ }
@@ -121,7 +121,7 @@ fn copy_rows(dst: &mut [u64], src: &[u64], rows: usize, end: usize)
     }
 }
 
-// The copy of a simulation's changing part, without the places that hold nothing in either.
+// The whole copy of a simulation's changing part, made without the places that hold nothing in either. How many places it goes through is not said.
 pub fn copy_held(dst: &mut [u64], src: &[u64], rows: usize, end: usize, count: usize)
     requires { ⌜ Lends rows end (now src) (now dst) × (end + count * 6 ≤ length (now src)) × (end + count * 6 ≤ length (now dst)) ⌝ }
     ensures { λ _. ⌜ now (dst .exit) ≡ copied 0 (end + count * 6) (now (src .entry)) (now (dst .entry)) ⌝ }

@@ -54,7 +54,7 @@ fn collect(rows: &mut [u64], mem: &[u64], written: usize, active: usize, count: 
     copying::lay_down(&mut rows[written * 6..], mem, active, count);
 }
 
-// `step_until` with a limit that may be infinite: steps until the clock is no longer below `until`, or `bound` steps are done, or one is refused. `until` may be infinite. The words that are lent for the run are all 0.
+// The rules' run with a limit that may be infinite: steps until the clock is no longer below `until`, or `bound` steps are done, or one is refused. It says end, steps and rows; the words hold the simulation left. They are all 0 at first.
 pub fn run(
     state: &[u64],
     services: &[f64],

@@ -26,7 +26,7 @@ pub enum Service {
     Refused(Refusal),
 }
 
-// The service time at a place: 9 past the end, 10 where it is no time.
+// The service time at a place, with the place after it: 9 past the end, 10 where it is no time.
 pub fn service_time(services: &[f64], place: u64) -> Service
     ensures { λ r. ⌜ serviceOf r ≡ Models.service (now (services .entry)) place ⌝ }
 {

@@ -110,7 +110,7 @@ fn hand_one(
     put_all(state, mem, owner, source, port, content, at, count)
 }
 
-// Each of the `messages` that the row `component` has put out, which stand from `from` on, in order.
+// Each of the `messages` that the row `component` has put out, which stand from `from` on, in order: parked along internal couplings, then put out along external output couplings; 8 where there is no room.
 // Those that its Coupled, `row`, puts out stand from `at` on, `count` of them so far.
 pub fn hand_all(
     state: &[u64],

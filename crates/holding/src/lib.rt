@@ -121,6 +121,7 @@ fn processor_fits(capacity: u64, phase: u64, timer: u64, held: u64, own: &[u64])
     queue_fits(own, held)
 }
 
+// Whether a batcher's head and own words are what 20 asks.
 fn batcher_fits(phase: u64, timer: u64, held: u64, own: &[u64]) -> bool
     requires { ⌜ length (now own) ≡ 64 ⌝ }
     ensures { λ r. ⌜ ((model : Batcher) → r ≡ rowFits (Table.batcher model) phase timer held (now (own .entry))) ⌝ }
@@ -352,7 +353,7 @@ fn table_fits(state: &[u64]) -> bool
     }
 }
 
-// What 20 asks of a lent state: whether the buffer holds a simulation.
+// Whether the buffer holds a simulation: what 20 asks of a lent state.
 pub fn is_state(state: &[u64]) -> bool
     ensures { λ r. ⌜ r ≡ isStored (now (state .entry)) ⌝ }
 {

@@ -17,6 +17,7 @@ ghost use Rattle.storing.specs.State.{wordsFor};
 ghost use Rattle.storing.specs.Lent.{callIn, left, listed, postIn, putIn, leftAnew, runIn, leftByRun};
 ghost use Rattle.host.specs.Numbers.{answerNumber, numberOf, endNumber, endWord, reported, reportAfter, said, statusAfter, countAfter, timeAfter};
 
+// 0, or the refusal's number.
 fn answer_number(answer: Answer) -> u32
     ensures { λ r. ⌜ r ≡ answerNumber answer ⌝ }
 {
@@ -26,6 +27,7 @@ fn answer_number(answer: Answer) -> u32
     }
 }
 
+// `post`: 0, 20, 1, 2 or 3, and the state buffer after it.
 #[no_mangle]
 pub extern "C" fn jt_post(
     models: &[u64],
@@ -39,6 +41,7 @@ pub extern "C" fn jt_post(
     answer_number(simulation::post(models, connectors, couplings, state))
 }
 
+// `put`: 0, 20, 1, 2 or 3, and the state buffer after it.
 #[no_mangle]
 pub extern "C" fn jt_put(
     state: &mut [u64],
@@ -52,6 +55,7 @@ pub extern "C" fn jt_put(
     answer_number(simulation::put(state, models, connectors, couplings))
 }
 
+// `inject_input`: 0, 20, 10 or 8, and the state buffer after it.
 #[no_mangle]
 pub extern "C" fn jt_inject_input(
     state: &mut [u64],
@@ -112,6 +116,7 @@ fn tell(told: Report, report: &mut [u64; 3]) -> u32
     end_number(end)
 }
 
+// `step`: 0 or the number of the refusal; report, state buffer and rows after it.
 #[no_mangle]
 pub extern "C" fn jt_step(
     state: &mut [u64],
@@ -128,6 +133,7 @@ pub extern "C" fn jt_step(
     tell(told, report)
 }
 
+// `step_n`: 0 or the number of the refusal; report, state buffer and rows after it.
 #[no_mangle]
 pub extern "C" fn jt_step_n(
     state: &mut [u64],
@@ -145,6 +151,7 @@ pub extern "C" fn jt_step_n(
     tell(told, report)
 }
 
+// `step_until`: 0 or the number of the refusal; report, state buffer and rows after it.
 #[no_mangle]
 pub extern "C" fn jt_step_until(
     state: &mut [u64],
@@ -163,6 +170,7 @@ pub extern "C" fn jt_step_until(
     tell(told, report)
 }
 
+// `reset`: 0 or 20, and the state buffer after it.
 #[no_mangle]
 pub extern "C" fn jt_reset(state: &mut [u64]) -> u32
     ensures answers { λ r. ⌜ r ≡ numberOf (callIn Calls.reset (now (state .entry))) ⌝ }
@@ -171,6 +179,7 @@ pub extern "C" fn jt_reset(state: &mut [u64]) -> u32
     answer_number(simulation::reset(state))
 }
 
+// `reset_messages`: 0 or 20, and the state buffer after it.
 #[no_mangle]
 pub extern "C" fn jt_reset_messages(state: &mut [u64]) -> u32
     ensures answers { λ r. ⌜ r ≡ numberOf (callIn Calls.resetMessages (now (state .entry))) ⌝ }
@@ -179,6 +188,7 @@ pub extern "C" fn jt_reset_messages(state: &mut [u64]) -> u32
     answer_number(simulation::reset_messages(state))
 }
 
+// `reset_global_time`: 0 or 20, and the state buffer after it.
 #[no_mangle]
 pub extern "C" fn jt_reset_global_time(state: &mut [u64]) -> u32
     ensures answers { λ r. ⌜ r ≡ numberOf (callIn Calls.resetGlobalTime (now (state .entry))) ⌝ }
@@ -216,6 +226,7 @@ fn say(report: &mut [u64; 2], what: u64, value: u64) -> u32
     0
 }
 
+// `get_status`: 0, 20 or 4, and the report after it.
 #[no_mangle]
 pub extern "C" fn jt_get_status(state: &[u64], id: u16, report: &mut [u64; 2]) -> u32
     ensures answers { λ r. ⌜ r ≡ numberOf (callIn (Calls.getStatus id) (now (state .entry))) ⌝ }
@@ -231,6 +242,7 @@ pub extern "C" fn jt_get_status(state: &[u64], id: u16, report: &mut [u64; 2]) -
     }
 }
 
+// `get_messages`: 0, 20 or 13; rows and count after it.
 #[no_mangle]
 pub extern "C" fn jt_get_messages(state: &[u64], rows: &mut [u64], count: &mut u64) -> u32
     ensures answers { λ r. ⌜ r ≡ numberOf (callIn (Calls.getMessages (roomIn (now (rows .entry)))) (now (state .entry))) ⌝ }
@@ -246,6 +258,7 @@ pub extern "C" fn jt_get_messages(state: &[u64], rows: &mut [u64], count: &mut u
     }
 }
 
+// `get_global_time`: 0 or 20, and the time after it.
 #[no_mangle]
 pub extern "C" fn jt_get_global_time(state: &[u64], time: &mut f64) -> u32
     ensures answers { λ r. ⌜ r ≡ numberOf (callIn Calls.getGlobalTime (now (state .entry))) ⌝ }
@@ -260,6 +273,7 @@ pub extern "C" fn jt_get_global_time(state: &[u64], time: &mut f64) -> u32
     }
 }
 
+// How long a state buffer must be for any state of a table of these lengths; 0 where the table is too large.
 #[no_mangle]
 pub extern "C" fn jt_state_words(
     models_len: usize,

@@ -40,7 +40,7 @@ fn atom_internal(
     }
 }
 
-// A model's timer has run out. So many levels are left below it.
+// A model's timer has run out: the rules' internal event, done in the rows' words, or refused as there. So many levels are left below it.
 // What it puts out stands from `at` on; what the models inside put out, after that, 256 words a level.
 pub fn internal(
     state: &[u64],

@@ -112,7 +112,7 @@ fn run_large(
     run_in(state, services, &mut mem, until, bound, rows)
 }
 
-// A run that was refused before its first step.
+// The report of a run that was refused before its first step.
 pub fn refused(refusal: Refusal) -> Report
     ensures { λ r. ⌜ r ≡ refusedReport refusal ⌝ }
 {
@@ -135,7 +135,7 @@ fn done_for(end: End) -> End
     }
 }
 
-// The run of an order: `step_n` is a run that no clock ends. It calls itself, so that the compiler keeps the words of each size in a frame of their own.
+// The run of an order, on a lent state: the report, the rows, the state after it. `step_n` is a run that no clock ends. It calls itself, so that the compiler keeps the words of each size in a frame of their own.
 pub fn run(state: &mut [u64], services: &[f64], order: Order, rows: &mut [u64]) -> Report
     requires { ⌜ T (isStored (now state)) × Fits order ⌝ }
     ensures reports { λ r. ⌜ Reported r (ordered order (now (services .entry)) (roomIn (now (rows .entry))) (simOf (now (state .entry)))) (now (rows .entry)) (now (rows .exit)) ⌝ }

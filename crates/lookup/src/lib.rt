@@ -15,6 +15,7 @@ ghost use Rattle.selection.specs.Selected.{leadsTo};
 ghost use Rattle.table.specs.Passed.{connectorAt};
 ghost use Rattle.lookup.specs.Inside.{Inside, tailAt, tableIn, connectorsIn, couplingsIn, foundIn};
 
+// How many model rows the table has.
 pub fn row_count(state: &[u64]) -> usize
     requires { ⌜ Inside (now state) ⌝ }
     ensures { λ r. ⌜ r ≡ length (tableIn (now (state .entry)) .rows) ⌝ }
@@ -22,6 +23,7 @@ pub fn row_count(state: &[u64]) -> usize
     state[0] as usize
 }
 
+// How many connectors the table has.
 pub fn connector_count(state: &[u64]) -> usize
     requires { ⌜ Inside (now state) ⌝ }
     ensures { λ r. ⌜ r ≡ length (tableIn (now (state .entry)) .connectors) ⌝ }
@@ -29,6 +31,7 @@ pub fn connector_count(state: &[u64]) -> usize
     state[1] as usize
 }
 
+// How many couplings the table has.
 pub fn coupling_count(state: &[u64]) -> usize
     requires { ⌜ Inside (now state) ⌝ }
     ensures { λ r. ⌜ r ≡ length (tableIn (now (state .entry)) .couplings) ⌝ }
@@ -36,7 +39,7 @@ pub fn coupling_count(state: &[u64]) -> usize
     state[2] as usize
 }
 
-// Where the simulation's changing part begins.
+// Where the table ends, and the simulation's changing part begins.
 pub fn tail_at(state: &[u64]) -> usize
     requires { ⌜ Inside (now state) ⌝ }
     ensures { λ r. ⌜ r ≡ tailAt (now (state .entry)) ⌝ }
@@ -46,6 +49,7 @@ pub fn tail_at(state: &[u64]) -> usize
     couplings + state[2] as usize * 6
 }
 
+// A row's id.
 pub fn id_of(state: &[u64], row: usize) -> u64
     requires { ⌜ Inside (now state) ⌝ }
     ensures { λ r. ⌜ r ≡ idAt (tableIn (now (state .entry))) row ⌝ }
@@ -54,6 +58,7 @@ pub fn id_of(state: &[u64], row: usize) -> u64
     table::id_at(&state[3..end], row)
 }
 
+// A row's kind with its fields.
 pub fn kind_of(state: &[u64], row: usize) -> Kind
     requires { ⌜ Inside (now state) × (row < length (tableIn (now state) .rows)) ⌝ }
     ensures { λ r. ⌜ r ≡ named (kindAt (tableIn (now (state .entry))) row) ⌝ }
@@ -71,6 +76,7 @@ pub fn is_coupled(state: &[u64], row: usize) -> bool
     state[start + 1] == 4
 }
 
+// The first component of an owner from a row on, or Nothing.
 pub fn next_component(state: &[u64], from: usize, owner: u64) -> Found
     requires { ⌜ Inside (now state) ⌝ }
     ensures { λ r. ⌜ r ≡ firstFrom (λ j. isParent owner (rowAt (tableIn (now (state .entry))) j .parent)) from (length (tableIn (now (state .entry)) .rows) - from) ⌝ }
@@ -79,6 +85,7 @@ pub fn next_component(state: &[u64], from: usize, owner: u64) -> Found
     selection::next_component(&state[3..end], from, owner)
 }
 
+// The first row without parent from a row on, or Nothing.
 pub fn next_parentless(state: &[u64], from: usize) -> Found
     requires { ⌜ Inside (now state) ⌝ }
     ensures { λ r. ⌜ r ≡ firstFrom (λ j. isParentless (rowAt (tableIn (now (state .entry))) j .parent)) from (length (tableIn (now (state .entry)) .rows) - from) ⌝ }
@@ -87,7 +94,7 @@ pub fn next_parentless(state: &[u64], from: usize) -> Found
     selection::next_parentless(&state[3..end], from)
 }
 
-// The component of this owner that has this id. Ids differ, so there is one at most.
+// The component of this owner that has this id, or Nothing. Ids differ, so there is one at most.
 pub fn component_of(state: &[u64], owner: u64, id: u64) -> Found
     requires { ⌜ Inside (now state) ⌝ }
     ensures { λ r. ⌜ foundIn r ≡ those (λ j. eqb (idAt (tableIn (now (state .entry))) j) id) (components (tableIn (now (state .entry))) owner) ⌝ }
@@ -107,6 +114,7 @@ pub fn component_of(state: &[u64], owner: u64, id: u64) -> Found
     }
 }
 
+// The first external input coupling of an owner at a port, from a place on, or Nothing.
 pub fn next_input(state: &[u64], from: usize, owner: u64, port: u64) -> Found
     requires { ⌜ Inside (now state) ⌝ }
     ensures { λ r. ⌜ r ≡ firstFrom (isInput (couplingsIn (now (state .entry))) owner port) from (length (tableIn (now (state .entry)) .couplings) - from) ⌝ }
@@ -117,6 +125,7 @@ pub fn next_input(state: &[u64], from: usize, owner: u64, port: u64) -> Found
     selection::next_input(&state[start..end], from, owner, port)
 }
 
+// The first external output coupling of an owner from a component's port, from a place on, or Nothing.
 pub fn next_output(state: &[u64], from: usize, owner: u64, source: u64, port: u64) -> Found
     requires { ⌜ Inside (now state) ⌝ }
     ensures { λ r. ⌜ r ≡ firstFrom (isOutput (couplingsIn (now (state .entry))) owner source port) from (length (tableIn (now (state .entry)) .couplings) - from) ⌝ }
@@ -127,6 +136,7 @@ pub fn next_output(state: &[u64], from: usize, owner: u64, source: u64, port: u6
     selection::next_output(&state[start..end], from, owner, source, port)
 }
 
+// The first internal coupling of an owner from a component's port, from a place on, or Nothing.
 pub fn next_internal(state: &[u64], from: usize, owner: u64, source: u64, port: u64) -> Found
     requires { ⌜ Inside (now state) ⌝ }
     ensures { λ r. ⌜ r ≡ firstFrom (isInternal (couplingsIn (now (state .entry))) owner source port) from (length (tableIn (now (state .entry)) .couplings) - from) ⌝ }
@@ -148,6 +158,7 @@ pub fn coupling_target(state: &[u64], coupling: usize) -> Target
     selection::coupling_target(&state[start..end], coupling)
 }
 
+// The first connector from an id and port, from a place on, or Nothing.
 pub fn next_connector(state: &[u64], from: usize, source: u64, port: u64) -> Found
     requires { ⌜ Inside (now state) ⌝ }
     ensures { λ r. ⌜ r ≡ firstFrom (connects (connectorsIn (now (state .entry))) source port) from (length (tableIn (now (state .entry)) .connectors) - from) ⌝ }

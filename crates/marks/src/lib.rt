@@ -269,7 +269,7 @@ fn put_name(words: &mut [u64], k: usize, name: u64)
     words[128 + k] = unmade;
 }
 
-// Sets the clock on the job of that name, making it if it is new.
+// Sets the clock on the job of that name, making it if it is new; how many names there are then. NoRoom for the 65th; CutShort where the words are cut short or more than 64 names are said to be held.
 pub fn set_mark(words: &mut [u64], held: u64, name: u64, mark: Mark, clock: f64) -> Marking
     ensures { λ r. ⌜ (r, now (words .exit)) ≡ markedIn mark held name clock (now (words .entry)) ⌝ }
 {
@@ -290,7 +290,7 @@ pub fn set_mark(words: &mut [u64], held: u64, name: u64, mark: Mark, clock: f64)
     Marking::Held(held + 1)
 }
 
-// The complete job of least or greatest stop less start, the first made among equals.
+// The complete job of least or greatest stop less start, the first made among equals; or Nothing, or CutShort.
 pub fn fetch(words: &[u64], held: u64, metric: Metric) -> Fetched
     ensures { λ r. ⌜ r ≡ fetchedIn metric held (now (words .entry)) ⌝ }
 {
@@ -300,7 +300,7 @@ pub fn fetch(words: &[u64], held: u64, metric: Metric) -> Fetched
     fetch_from(words, held as usize, metric)
 }
 
-// The mean of the complete durations.
+// The mean of the complete durations; or Nothing where none is complete, or CutShort.
 pub fn mean(words: &[u64], held: u64) -> MeanOf
     ensures { λ r. ⌜ r ≡ meanIn held (now (words .entry)) ⌝ }
 {
@@ -316,7 +316,7 @@ pub fn mean(words: &[u64], held: u64) -> MeanOf
     MeanOf::Mean(total.sum / number)
 }
 
-// What 20 asks of the names and marks.
+// Whether the names and marks are what 20 asks.
 pub fn fit(words: &[u64], held: u64) -> bool
     ensures { λ r. ⌜ r ≡ fitIn held (now (words .entry)) ⌝ }
 {

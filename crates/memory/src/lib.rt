@@ -22,7 +22,7 @@ pub enum Put {
     Refused(Refusal),
 }
 
-// What is not refused is done: what became of the message is not told.
+// Whether what came was taken, or the number that it was refused with. What became of it is not told.
 pub fn answer_of(taken: Taken) -> Answer
     ensures { λ r. ⌜ r ≡ answerOf taken ⌝ }
 {
@@ -36,6 +36,7 @@ pub fn answer_of(taken: Taken) -> Answer
     }
 }
 
+// A row's phase word.
 pub fn phase_at(mem: &[u64], row: usize) -> u64
     requires { ⌜ headAt row + 4 ≤ length (now mem) ⌝ }
     ensures { λ r. ⌜ r ≡ phaseIn (now (mem .entry)) row ⌝ }
@@ -43,7 +44,7 @@ pub fn phase_at(mem: &[u64], row: usize) -> u64
     mem[row * 4 + 3]
 }
 
-// A timer's bits are those of a timer, so no NaN is read.
+// A row's timer, from its bits. They are those of a timer, so no NaN is read.
 pub fn timer_at(mem: &[u64], row: usize) -> f64
     requires { ⌜ (headAt row + 4 ≤ length (now mem)) × T (isTimer (ofBits binary64 (timerIn (now mem) row))) ⌝ }
     ensures { λ r. ⌜ r ≡ ofBits binary64 (timerIn (now (mem .entry)) row) ⌝ }
@@ -53,6 +54,7 @@ pub fn timer_at(mem: &[u64], row: usize) -> f64
     f64::from_bits(bits)
 }
 
+// How many a row holds.
 pub fn held_at(mem: &[u64], row: usize) -> u64
     requires { ⌜ headAt row + 4 ≤ length (now mem) ⌝ }
     ensures { λ r. ⌜ r ≡ heldIn (now (mem .entry)) row ⌝ }
@@ -61,6 +63,7 @@ pub fn held_at(mem: &[u64], row: usize) -> u64
     mem[head + 2]
 }
 
+// Where a row's own words begin.
 pub fn begin_at(mem: &[u64], row: usize) -> usize
     requires { ⌜ headAt row + 4 ≤ length (now mem) ⌝ }
     ensures { λ r. ⌜ r ≡ beginIn (now (mem .entry)) row ⌝ }
@@ -69,7 +72,7 @@ pub fn begin_at(mem: &[u64], row: usize) -> usize
     mem[head + 3] as usize
 }
 
-// The three words of a row that events change; the timer by its bits.
+// Writes the three words of a row that events change: phase, timer by its bits, number held. All else stays.
 pub fn set_head(mem: &mut [u64], row: usize, phase: u64, timer: u64, held: u64)
     requires { ⌜ headAt row + 4 ≤ length (now mem) ⌝ }
     ensures { λ _. ⌜ now (mem .exit) ≡ headed row phase timer held (now (mem .entry)) ⌝ }
@@ -80,7 +83,7 @@ pub fn set_head(mem: &mut [u64], row: usize, phase: u64, timer: u64, held: u64)
     mem[head + 2] = held;
 }
 
-// A row's timer alone, by its bits.
+// Writes a row's timer alone, by its bits. All else stays.
 pub fn set_timer(mem: &mut [u64], row: usize, timer: u64)
     requires { ⌜ headAt row + 4 ≤ length (now mem) ⌝ }
     ensures { λ _. ⌜ now (mem .exit) ≡ set (now (mem .entry)) (headAt row + 1) timer ⌝ }

@@ -80,7 +80,7 @@ fn atom_external(
     }
 }
 
-// A message comes to a model: `content` at `port`. So many levels are left below it.
+// A message comes to a model, `content` at `port`: the rules' external event, done in the rows' words, or refused as there. So many levels are left below it.
 pub fn external(
     state: &[u64],
     services: &[f64],

@@ -8,7 +8,7 @@ ghost use Rattle.memory.specs.Words.{placeIn, beginIn, Own};
 ghost use Rattle.memory.specs.View.{Row};
 ghost use Rattle.parked_rows.specs.Parking.{Parks, Emptied};
 
-// A message for a component is parked; the 65th is 8.
+// A message for a component is parked behind the Coupled's others; the 65th is 8.
 pub fn park(mem: &mut [u64], row: usize, component: u64, port: u64, content: u32) -> Answer
     requires { ⌜ Row Table.coupled (beginIn (now mem) row) (now mem) row × (component < 65536) × (port < 65536) ⌝ }
     ensures parks { λ r. ⌜ Parks r (beginIn (now (mem .entry)) row) row (now (mem .entry)) (now (mem .exit)) (record { component = component; port = port; content = content }) ⌝ }
@@ -26,7 +26,7 @@ pub fn park(mem: &mut [u64], row: usize, component: u64, port: u64, content: u32
     Answer::Done
 }
 
-// The list is emptied.
+// The Coupled's list is emptied: nothing counted, its places 0.
 pub fn empty(mem: &mut [u64], row: usize)
     requires { ⌜ Row Table.coupled (beginIn (now mem) row) (now mem) row ⌝ }
     ensures emptied { λ _. ⌜ Emptied (beginIn (now (mem .entry)) row) row (now (mem .exit)) ⌝ }

@@ -147,7 +147,7 @@ fn lay(
     lay_fresh(state, tail, models, active, clock, place)
 }
 
-// What intake says of a table, as an answer: 1, 2 or 3.
+// What intake says of a table, as an answer: done, 1, 2 or 3.
 pub fn judged(models: &[u64], connectors: &[u64], couplings: &[u64]) -> Answer
     ensures { λ r. ⌜ r ≡ answered (takenIn (intake (lent (now (models .entry)) (now (connectors .entry)) (now (couplings .entry))))) ⌝ }
 {

@@ -52,7 +52,7 @@ impl ProcessorState {
         }
     }
 
-    // What 20 asks of the state and the row.
+    // Whether the state and the row are what 20 asks.
     pub fn fits(self, row: Processor) -> bool
         ensures { λ r. ⌜ ((queue : List ℕ) → length queue ≡ self .held → T (every isContent queue) → r ≡ Valid.modelFits (Table.processor row) (Simulation.ofProcessor (processorOf self queue))) ⌝ }
     {
@@ -108,7 +108,7 @@ impl ProcessorState {
         }
     }
 
-    // A job comes.
+    // A job comes: 01's rule alone. 5, 6, 7, 9 and 10 leave the state as it was.
     pub fn external_rule(
         self,
         row: Processor,
@@ -145,7 +145,7 @@ impl ProcessorState {
         }
     }
 
-    // The timer has run out.
+    // The timer has run out: 01's rule alone.
     pub fn internal_rule(self, services: &[f64], place: u64) -> ProcessorGone
         ensures { λ r. ⌜ ((queue : List ℕ) → length queue ≡ self .held → Went self place queue r (Models.processorInternal (now (services .entry)) (processorOf self queue) place)) ⌝ }
     {

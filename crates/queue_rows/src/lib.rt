@@ -232,7 +232,7 @@ fn write_gone(mem: &mut [u64], row: usize, next: Head, gone: Gone, port: u16, at
     }
 }
 
-// A job comes.
+// A job comes: the processor's rule, done in the row's words. Only these and the place are written.
 pub fn processor_external(
     mem: &mut [u64],
     services: &[f64],
@@ -253,7 +253,7 @@ pub fn processor_external(
     write_taken(mem, row, head, answer, content)
 }
 
-// Its timer has run out. What it puts out stands from `at` on.
+// Its timer has run out: the processor's rule, done in the row's words. What it puts out stands from `at` on.
 pub fn processor_internal(
     mem: &mut [u64],
     services: &[f64],
@@ -273,7 +273,7 @@ pub fn processor_internal(
     write_gone(mem, row, head, answer, model.output, at)
 }
 
-// A job comes. The port isn't looked at.
+// A job comes: the batcher's rule, done in the row's words. The port isn't looked at.
 pub fn batcher_external(mem: &mut [u64], row: usize, model: Batcher, content: u32) -> Answer
     requires { ⌜ Row (Table.batcher model) (beginIn (now mem) row) (now mem) row ⌝ }
     ensures takes { λ r. ⌜ ((services : List Float) (clock : Float) (port : ℕ) → Took r (Table.batcher model) (beginIn (now (mem .entry)) row) row (now (mem .exit)) (atomExternal (Table.batcher model) services clock port content (stateIn (Table.batcher model) (beginIn (now (mem .entry)) row) (now (mem .entry)) row) (placeIn (now (mem .entry))))) ⌝ }
@@ -287,7 +287,7 @@ pub fn batcher_external(mem: &mut [u64], row: usize, model: Batcher, content: u3
     write_taken(mem, row, head, answer, content)
 }
 
-// Its timer has run out. What it puts out stands from `at` on.
+// Its timer has run out: the batcher's rule, done in the row's words. What it puts out stands from `at` on.
 pub fn batcher_internal(mem: &mut [u64], row: usize, model: Batcher, at: usize) -> Put
     requires { ⌜ Row (Table.batcher model) (beginIn (now mem) row) (now mem) row × (beginIn (now mem) row + 64 ≤ at) × (at + 64 ≤ length (now mem)) ⌝ }
     ensures gives { λ r. ⌜ ((services : List Float) → Gave r at (Table.batcher model) (beginIn (now (mem .entry)) row) row (now (mem .exit)) (atomInternal (Table.batcher model) services (stateIn (Table.batcher model) (beginIn (now (mem .entry)) row) (now (mem .entry)) row) (placeIn (now (mem .entry))))) ⌝ }

@@ -33,7 +33,7 @@ pub fn load(state: &[u64], mem: &mut [u64], active: usize)
     copying::copy(mem, state, tail, active + count * 6);
 }
 
-// The same into words that are all 0, by the words that are held alone.
+// The lent state's simulation into words that are all 0, by the words that are held alone.
 pub fn load_fresh(state: &[u64], mem: &mut [u64], active: usize)
     requires { ⌜ Stored (now state) × (endOf (tableIn (now state)) + 2816 ≤ length (now mem)) × (active ≡ endOf (tableIn (now state))) × ((p : ℕ) → wordAt (now mem) p ≡ 0) ⌝ }
     ensures loads { λ _. ⌜ simIn (tableIn (now (state .entry))) (now (mem .exit)) ≡ simOf (now (state .entry)) ⌝ }
@@ -91,7 +91,7 @@ fn look(
     Next::Reached
 }
 
-// One step more than `steps`, and the look at the clock and at the room left.
+// One step more than `steps`, and the look at the clock and at the room left: On, Reached, or Refused. After a refusal the words hold the simulation of the `steps` before it.
 pub fn next_step(
     state: &[u64],
     services: &[f64],

@@ -12,7 +12,7 @@ ghost use Rattle.sweeps.specs.Skips.{stopFrom};
 ghost use Rattle.row_timers.specs.Passing.{atZero, Passed};
 ghost use Rattle.row_timers.specs.Aging.{Aged};
 
-// The least timer. A Coupled's is that of a component, so the rows' own timers do. Few are below the least so far, so a row's kind is asked for last.
+// The least timer of the models without parent. A Coupled's is that of a component, so the rows' own timers do. Few are below the least so far, so a row's kind is asked for last.
 pub fn least_timer(state: &[u64], mem: &[u64]) -> f64
     requires { ⌜ Inside (now state) × Ready (tableIn (now state)) (now mem) ⌝ }
     ensures { λ r. ⌜ r ≡ leastTimer (tableIn (now (state .entry))) (statesIn (tableIn (now (state .entry))) (now (mem .entry))) ⌝ }
@@ -48,7 +48,7 @@ pub fn next_at_zero(state: &[u64], mem: &[u64], from: usize) -> usize
     row
 }
 
-// Every timer less the advance. An advance of 0 leaves them as they are.
+// Every timer less the advance, rounded once. An advance of 0 leaves them as they are.
 pub fn pass(state: &[u64], mem: &mut [u64], advance: f64)
     requires { ⌜ Inside (now state) × Ready (tableIn (now state)) (now mem) × T (isTime advance) × Below advance (statesIn (tableIn (now state)) (now mem)) ⌝ }
     ensures passes { λ _. ⌜ Passed (tableIn (now (state .entry))) advance (now (mem .entry)) (now (mem .exit)) ⌝ }

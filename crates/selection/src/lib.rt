@@ -99,7 +99,7 @@ fn next_child(models: &[u64], from: usize, given: u64, parent: u64) -> Found
     Found::Nothing
 }
 
-// The next connector from this id and port.
+// The next connector from this id and port, or Nothing.
 pub fn next_connector(connectors: &[u64], from: usize, source: u64, port: u64) -> Found
     ensures { λ r. ⌜ r ≡ firstFrom (connects (now (connectors .entry)) source port) from (connectorsIn (now (connectors .entry)) - from) ⌝ }
 {
@@ -113,21 +113,21 @@ pub fn connector_target(connectors: &[u64], row: usize) -> Target
     target_at(connectors, 4, 2, row)
 }
 
-// The next external input coupling of this owner, at this port.
+// The next external input coupling of this owner, at this port, or Nothing.
 pub fn next_input(couplings: &[u64], from: usize, owner: u64, port: u64) -> Found
     ensures { λ r. ⌜ r ≡ firstFrom (isInput (now (couplings .entry)) owner port) from (couplingsIn (now (couplings .entry)) - from) ⌝ }
 {
     next_coupling(couplings, from, 1, owner, 3, port, port)
 }
 
-// The next external output coupling of this owner, from this component's port.
+// The next external output coupling of this owner, from this component's port, or Nothing.
 pub fn next_output(couplings: &[u64], from: usize, owner: u64, source: u64, port: u64) -> Found
     ensures { λ r. ⌜ r ≡ firstFrom (isOutput (now (couplings .entry)) owner source port) from (couplingsIn (now (couplings .entry)) - from) ⌝ }
 {
     next_coupling(couplings, from, 2, owner, 2, source, port)
 }
 
-// The next internal coupling of this owner, from this component's port.
+// The next internal coupling of this owner, from this component's port, or Nothing.
 pub fn next_internal(couplings: &[u64], from: usize, owner: u64, source: u64, port: u64) -> Found
     ensures { λ r. ⌜ r ≡ firstFrom (isInternal (now (couplings .entry)) owner source port) from (couplingsIn (now (couplings .entry)) - from) ⌝ }
 {
@@ -141,21 +141,21 @@ pub fn coupling_target(couplings: &[u64], row: usize) -> Target
     target_at(couplings, 6, 4, row)
 }
 
-// The next component of the Coupled with this id.
+// The next component of the Coupled with this id, or Nothing.
 pub fn next_component(models: &[u64], from: usize, owner: u64) -> Found
     ensures { λ r. ⌜ r ≡ firstFrom (isComponent (now (models .entry)) owner) from (rowsIn (now (models .entry)) - from) ⌝ }
 {
     next_child(models, from, 1, owner)
 }
 
-// The next model without parent.
+// The next model without parent, or Nothing.
 pub fn next_parentless(models: &[u64], from: usize) -> Found
     ensures { λ r. ⌜ r ≡ firstFrom (isFree (now (models .entry))) from (rowsIn (now (models .entry)) - from) ⌝ }
 {
     next_child(models, from, 0, 0)
 }
 
-// The next row with this id.
+// The next row with this id, or Nothing.
 pub fn next_with_id(models: &[u64], from: usize, id: u64) -> Found
     ensures { λ r. ⌜ r ≡ firstFrom (hasId (now (models .entry)) id) from (rowsIn (now (models .entry)) - from) ⌝ }
 {

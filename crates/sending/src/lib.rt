@@ -76,7 +76,7 @@ fn send_one(
     Put::Out(sent)
 }
 
-// Each of the `messages` that the row has put out, which stand from `from` on, in order, stamped with the clock.
+// Each of the `messages` that the row has put out, which stand from `from` on, in order, along every connector that matches, stamped with the clock; 8 for the 257th.
 // Those sent stand from `active` on, `count` of them so far.
 pub fn send_all(
     state: &[u64],

@@ -31,7 +31,7 @@ pub enum Clock {
     Refused(Refusal),
 }
 
-// A new simulation of a table. Of the state buffer it asks only the length.
+// A new simulation of a table: 20, 1, 2, 3, or done. Of the state buffer it asks only the length.
 pub fn post(models: &[u64], connectors: &[u64], couplings: &[u64], state: &mut [u64]) -> Answer
     ensures answers { λ r. ⌜ r ≡ answered (postIn (now (models .entry)) (now (connectors .entry)) (now (couplings .entry)) (now (state .entry))) ⌝ }
     ensures leaves { λ _. ⌜ now (state .exit) ≡ leftAnew (now (models .entry)) (now (connectors .entry)) (now (couplings .entry)) (now (state .entry)) (postIn (now (models .entry)) (now (connectors .entry)) (now (couplings .entry)) (now (state .entry))) ⌝ }
@@ -39,7 +39,7 @@ pub fn post(models: &[u64], connectors: &[u64], couplings: &[u64], state: &mut [
     posting::post(models, connectors, couplings, state)
 }
 
-// Fresh default models of another table; messages, clock and place stay.
+// Fresh default models of another table; messages, clock and place stay: 20, 1, 2, 3, or done.
 pub fn put(state: &mut [u64], models: &[u64], connectors: &[u64], couplings: &[u64]) -> Answer
     ensures answers { λ r. ⌜ r ≡ answered (putIn (now (models .entry)) (now (connectors .entry)) (now (couplings .entry)) (now (state .entry))) ⌝ }
     ensures leaves { λ _. ⌜ now (state .exit) ≡ leftAnew (now (models .entry)) (now (connectors .entry)) (now (couplings .entry)) (now (state .entry)) (putIn (now (models .entry)) (now (connectors .entry)) (now (couplings .entry)) (now (state .entry))) ⌝ }
@@ -59,7 +59,7 @@ pub fn put(state: &mut [u64], models: &[u64], connectors: &[u64], couplings: &[u
     }
 }
 
-// One more active message. 10, then 8.
+// One more active message: 20, 10, 8, or done.
 pub fn inject_input(state: &mut [u64], message: Message) -> Answer
     ensures answers { λ r. ⌜ r ≡ answered (callIn (Calls.injectInput message) (now (state .entry))) ⌝ }
     ensures leaves { λ _. ⌜ now (state .exit) ≡ left (now (state .entry)) (callIn (Calls.injectInput message) (now (state .entry))) ⌝ }
@@ -78,7 +78,7 @@ pub fn inject_input(state: &mut [u64], message: Message) -> Answer
     Answer::Done
 }
 
-// One step; its messages are the rows.
+// One step: its end, and its messages as rows.
 pub fn step(state: &mut [u64], services: &[f64], rows: &mut [u64]) -> Report
     ensures reports { λ r. ⌜ Reported r (runIn (Calls.step (now (services .entry)) (roomIn (now (rows .entry)))) (now (state .entry))) (now (rows .entry)) (now (rows .exit)) ⌝ }
     ensures leaves { λ _. ⌜ now (state .exit) ≡ leftByRun (now (state .entry)) (runIn (Calls.step (now (services .entry)) (roomIn (now (rows .entry)))) (now (state .entry))) ⌝ }
@@ -86,7 +86,7 @@ pub fn step(state: &mut [u64], services: &[f64], rows: &mut [u64]) -> Report
     step_n(state, services, 1, rows)
 }
 
-// So many steps; the messages of all of them are the rows.
+// So many steps: how they ended, how many were completed, the messages of all of them as rows.
 pub fn step_n(state: &mut [u64], services: &[f64], count: u64, rows: &mut [u64]) -> Report
     ensures reports { λ r. ⌜ Reported r (runIn (Calls.stepN (now (services .entry)) (roomIn (now (rows .entry))) count) (now (state .entry))) (now (rows .entry)) (now (rows .exit)) ⌝ }
     ensures leaves { λ _. ⌜ now (state .exit) ≡ leftByRun (now (state .entry)) (runIn (Calls.stepN (now (services .entry)) (roomIn (now (rows .entry))) count) (now (state .entry))) ⌝ }
@@ -97,7 +97,7 @@ pub fn step_n(state: &mut [u64], services: &[f64], count: u64, rows: &mut [u64])
     lent_runs::run(state, services, Order::Steps(count), rows)
 }
 
-// Steps until the clock is no longer below `until`, at most as many as the allowance.
+// Steps until the clock is no longer below `until`, at most as many as the allowance: the end, the steps, the rows of those that ended below `until`.
 pub fn step_until(
     state: &mut [u64],
     services: &[f64],
@@ -114,7 +114,7 @@ pub fn step_until(
     lent_runs::run(state, services, Order::Until(until, allowance), rows)
 }
 
-// Messages and clock cleared, and nothing else.
+// Messages and clock cleared, and nothing else: 20 or done.
 pub fn reset(state: &mut [u64]) -> Answer
     ensures answers { λ r. ⌜ r ≡ answered (callIn Calls.reset (now (state .entry))) ⌝ }
     ensures leaves { λ _. ⌜ now (state .exit) ≡ left (now (state .entry)) (callIn Calls.reset (now (state .entry))) ⌝ }
@@ -126,6 +126,7 @@ pub fn reset(state: &mut [u64]) -> Answer
     Answer::Done
 }
 
+// The messages cleared, and nothing else: 20 or done.
 pub fn reset_messages(state: &mut [u64]) -> Answer
     ensures answers { λ r. ⌜ r ≡ answered (callIn Calls.resetMessages (now (state .entry))) ⌝ }
     ensures leaves { λ _. ⌜ now (state .exit) ≡ left (now (state .entry)) (callIn Calls.resetMessages (now (state .entry))) ⌝ }
@@ -137,6 +138,7 @@ pub fn reset_messages(state: &mut [u64]) -> Answer
     Answer::Done
 }
 
+// The clock set to 0, and nothing else: 20 or done.
 pub fn reset_global_time(state: &mut [u64]) -> Answer
     ensures answers { λ r. ⌜ r ≡ answered (callIn Calls.resetGlobalTime (now (state .entry))) ⌝ }
     ensures leaves { λ _. ⌜ now (state .exit) ≡ left (now (state .entry)) (callIn Calls.resetGlobalTime (now (state .entry))) ⌝ }
@@ -148,6 +150,7 @@ pub fn reset_global_time(state: &mut [u64]) -> Answer
     Answer::Done
 }
 
+// The status of a model without parent: 20, 4, or the status.
 pub fn get_status(state: &[u64], id: u16) -> Status
     ensures { λ r. ⌜ r ≡ statusAnswered (callIn (Calls.getStatus id) (now (state .entry))) ⌝ }
 {
@@ -157,7 +160,7 @@ pub fn get_status(state: &[u64], id: u16) -> Status
     asking::get_status(state, id)
 }
 
-// The active messages, as rows.
+// The active messages as rows: 20, 13, or how many.
 pub fn get_messages(state: &[u64], rows: &mut [u64]) -> Listing
     ensures answers { λ r. ⌜ r ≡ countTold (callIn (Calls.getMessages (roomIn (now (rows .entry)))) (now (state .entry))) ⌝ }
     ensures lays { λ _. ⌜ now (rows .exit) ≡ listed (now (rows .entry)) (callIn (Calls.getMessages (roomIn (now (rows .entry)))) (now (state .entry))) ⌝ }
@@ -171,6 +174,7 @@ pub fn get_messages(state: &[u64], rows: &mut [u64]) -> Listing
     Listing::Count(asking::get_messages(state, rows))
 }
 
+// The clock, or 20.
 pub fn get_global_time(state: &[u64]) -> Clock
     ensures { λ r. ⌜ r ≡ timeTold (callIn Calls.getGlobalTime (now (state .entry))) ⌝ }
 {

@@ -31,7 +31,7 @@ pub struct Ran {
 }
 
 impl Simulation {
-    // A refused post hands back the simulation of the empty table.
+    // `post` by value. A refused one hands back the simulation of the empty table.
     pub fn post(models: &[u64], connectors: &[u64], couplings: &[u64]) -> Changed
         ensures answers { λ r. ⌜ r .answer ≡ answered (Calls.post (lent (now (models .entry)) (now (connectors .entry)) (now (couplings .entry)))) ⌝ }
         ensures leaves { λ r. ⌜ r .simulation .words ≡ postedWords (now (models .entry)) (now (connectors .entry)) (now (couplings .entry)) ⌝ }
@@ -51,6 +51,7 @@ impl Simulation {
         }
     }
 
+    // `put` by value: the same answer, and the next simulation.
     pub fn put(self, models: &[u64], connectors: &[u64], couplings: &[u64]) -> Changed
         ensures answers { λ r. ⌜ r .answer ≡ answered (putIn (now (models .entry)) (now (connectors .entry)) (now (couplings .entry)) (self .words)) ⌝ }
         ensures leaves { λ r. ⌜ r .simulation .words ≡ leftAnew (now (models .entry)) (now (connectors .entry)) (now (couplings .entry)) (self .words) (putIn (now (models .entry)) (now (connectors .entry)) (now (couplings .entry)) (self .words)) ⌝ }
@@ -63,6 +64,7 @@ impl Simulation {
         }
     }
 
+    // `inject_input` by value: the same answer, and the next simulation.
     pub fn inject_input(self, message: Message) -> Changed
         ensures answers { λ r. ⌜ r .answer ≡ answered (callIn (Calls.injectInput message) (self .words)) ⌝ }
         ensures leaves { λ r. ⌜ r .simulation .words ≡ left (self .words) (callIn (Calls.injectInput message) (self .words)) ⌝ }
@@ -75,6 +77,7 @@ impl Simulation {
         }
     }
 
+    // `step` by value: the same report and rows, and the next simulation.
     pub fn step(self, services: &[f64], rows: &mut [u64]) -> Ran
         ensures reports { λ r. ⌜ Reported (r .report) (runIn (Calls.step (now (services .entry)) (roomIn (now (rows .entry)))) (self .words)) (now (rows .entry)) (now (rows .exit)) ⌝ }
         ensures leaves { λ r. ⌜ r .simulation .words ≡ leftByRun (self .words) (runIn (Calls.step (now (services .entry)) (roomIn (now (rows .entry)))) (self .words)) ⌝ }
@@ -87,6 +90,7 @@ impl Simulation {
         }
     }
 
+    // `step_n` by value: the same report and rows, and the next simulation.
     pub fn step_n(self, services: &[f64], count: u64, rows: &mut [u64]) -> Ran
         ensures reports { λ r. ⌜ Reported (r .report) (runIn (Calls.stepN (now (services .entry)) (roomIn (now (rows .entry))) count) (self .words)) (now (rows .entry)) (now (rows .exit)) ⌝ }
         ensures leaves { λ r. ⌜ r .simulation .words ≡ leftByRun (self .words) (runIn (Calls.stepN (now (services .entry)) (roomIn (now (rows .entry))) count) (self .words)) ⌝ }
@@ -99,6 +103,7 @@ impl Simulation {
         }
     }
 
+    // `step_until` by value: the same report and rows, and the next simulation.
     pub fn step_until(self, services: &[f64], until: f64, allowance: u32, rows: &mut [u64]) -> Ran
         ensures reports { λ r. ⌜ Reported (r .report) (runIn (Calls.stepUntil (now (services .entry)) until (roomIn (now (rows .entry))) allowance) (self .words)) (now (rows .entry)) (now (rows .exit)) ⌝ }
         ensures leaves { λ r. ⌜ r .simulation .words ≡ leftByRun (self .words) (runIn (Calls.stepUntil (now (services .entry)) until (roomIn (now (rows .entry))) allowance) (self .words)) ⌝ }
@@ -111,6 +116,7 @@ impl Simulation {
         }
     }
 
+    // `reset` by value: the same answer, and the next simulation.
     pub fn reset(self) -> Changed
         ensures answers { λ r. ⌜ r .answer ≡ answered (callIn Calls.reset (self .words)) ⌝ }
         ensures leaves { λ r. ⌜ r .simulation .words ≡ left (self .words) (callIn Calls.reset (self .words)) ⌝ }
@@ -123,6 +129,7 @@ impl Simulation {
         }
     }
 
+    // `reset_messages` by value: the same answer, and the next simulation.
     pub fn reset_messages(self) -> Changed
         ensures answers { λ r. ⌜ r .answer ≡ answered (callIn Calls.resetMessages (self .words)) ⌝ }
         ensures leaves { λ r. ⌜ r .simulation .words ≡ left (self .words) (callIn Calls.resetMessages (self .words)) ⌝ }
@@ -135,6 +142,7 @@ impl Simulation {
         }
     }
 
+    // `reset_global_time` by value: the same answer, and the next simulation.
     pub fn reset_global_time(self) -> Changed
         ensures answers { λ r. ⌜ r .answer ≡ answered (callIn Calls.resetGlobalTime (self .words)) ⌝ }
         ensures leaves { λ r. ⌜ r .simulation .words ≡ left (self .words) (callIn Calls.resetGlobalTime (self .words)) ⌝ }
@@ -147,6 +155,7 @@ impl Simulation {
         }
     }
 
+    // `get_status` by value: the same answer.
     pub fn get_status(self, id: u16) -> Status
         ensures { λ r. ⌜ r ≡ statusAnswered (callIn (Calls.getStatus id) (self .words)) ⌝ }
     {
@@ -154,6 +163,7 @@ impl Simulation {
         crate::get_status(&words, id)
     }
 
+    // `get_messages` by value: the same answer and rows.
     pub fn get_messages(self, rows: &mut [u64]) -> Listing
         ensures answers { λ r. ⌜ r ≡ countTold (callIn (Calls.getMessages (roomIn (now (rows .entry)))) (self .words)) ⌝ }
         ensures lays { λ _. ⌜ now (rows .exit) ≡ listed (now (rows .entry)) (callIn (Calls.getMessages (roomIn (now (rows .entry)))) (self .words)) ⌝ }
@@ -162,6 +172,7 @@ impl Simulation {
         crate::get_messages(&words, rows)
     }
 
+    // `get_global_time` by value: the same answer.
     pub fn get_global_time(self) -> Clock
         ensures { λ r. ⌜ r ≡ timeTold (callIn Calls.getGlobalTime (self .words)) ⌝ }
     {

@@ -28,7 +28,7 @@ pub enum Stepped {
     Halfway(Refusal),
 }
 
-// The clock.
+// The clock, from its bits.
 pub fn clock_at(mem: &[u64]) -> f64
     requires { ⌜ (2 ≤ length (now mem)) × T (isTime (clockIn (now mem))) ⌝ }
     ensures { λ r. ⌜ r ≡ clockIn (now (mem .entry)) ⌝ }
@@ -165,7 +165,7 @@ fn message_step(
     }
 }
 
-// One step. The active messages stand from `active` on.
+// The rules' step, done in the words, or refused as there: Untouched where nothing was written yet. The active messages stand from `active` on.
 pub fn step(state: &[u64], services: &[f64], mem: &mut [u64], active: usize) -> Stepped
     requires { ⌜ Inside (now state) × Sound (tableIn (now state)) (now mem) × (active ≡ endOf (tableIn (now state))) ⌝ }
     ensures steps { λ r. ⌜ Steps r (now (services .entry)) (tableIn (now (state .entry))) (now (mem .entry)) (now (mem .exit)) ⌝ }

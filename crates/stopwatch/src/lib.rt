@@ -46,7 +46,7 @@ impl StopwatchState {
         }
     }
 
-    // What 20 asks of the state, its words and the row.
+    // Whether the state, its words and the row are what 20 asks.
     pub fn fits(self, row: Stopwatch, words: &[u64]) -> bool
         ensures { λ r. ⌜ r ≡ fitsIn row self (now (words .entry)) ⌝ }
     {
@@ -95,7 +95,7 @@ impl StopwatchState {
         }
     }
 
-    // A message comes. Where a mark is to be set and the words are cut short, it is 20; a request for the metric does not look at them.
+    // A message comes: 01's rule alone, and the words after it. Where a mark is to be set and the words are cut short, it is 20; a request for the metric does not look at them.
     pub fn external_rule(
         self,
         row: Stopwatch,
@@ -125,7 +125,7 @@ impl StopwatchState {
         self.refused(Refusal::InvalidMessage)
     }
 
-    // The timer has run out.
+    // The timer has run out: 01's rule alone.
     pub fn internal_rule(self, row: Stopwatch, words: &[u64]) -> StopwatchGone
         ensures { λ r. ⌜ r ≡ internalIn row self (now (words .entry)) ⌝ }
     {
@@ -150,6 +150,7 @@ impl StopwatchState {
         }
     }
 
+    // In JobFetch: puts out the job of the metric, or nothing; 20 where the words are cut short.
     fn fetch(self, row: Stopwatch, words: &[u64]) -> StopwatchGone
         ensures { λ r. ⌜ r ≡ fetching row self (now (words .entry)) ⌝ }
     {
@@ -164,7 +165,7 @@ impl StopwatchState {
         }
     }
 
-    // A message comes: 20, then the rule.
+    // A message comes: 20, then the rule, and the words after it.
     pub fn external(
         self,
         row: Stopwatch,

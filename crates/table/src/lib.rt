@@ -129,6 +129,7 @@ fn processor_of(input: u64, output: u64, capacity: u64) -> Kind
     })
 }
 
+// A Batcher's fields, or Broken.
 fn batcher_of(input: u64, output: u64, size: u64, bits: u64) -> Kind
     ensures { λ r. ⌜ r ≡ kindOf (some (Judging.batcherOf input output size bits)) ⌝ }
 {
@@ -230,6 +231,7 @@ fn kind_in(cells: &[u64]) -> Kind
     Kind::Broken
 }
 
+// The parent that a row's words say.
 fn parent_in(cells: &[u64]) -> Parent
     ensures { λ r. ⌜ r ≡ parentOf (Layout.parentIn (now (cells .entry))) ⌝ }
 {
@@ -247,12 +249,14 @@ pub fn id_at(models: &[u64], row: usize) -> u64
     words::word_at(row_of(models, 10, row), 0)
 }
 
+// A row's kind with its fields; Broken where the kind, or a field that the kind has, breaks a rule.
 pub fn kind_at(models: &[u64], row: usize) -> Kind
     ensures { λ r. ⌜ r ≡ kindOf (Layout.kindIn (rowOf Layout.modelWidth (now (models .entry)) row)) ⌝ }
 {
     kind_in(row_of(models, 10, row))
 }
 
+// The id of a row's parent, or Nobody.
 pub fn parent_at(models: &[u64], row: usize) -> Parent
     ensures { λ r. ⌜ r ≡ parentOf (Layout.parentIn (rowOf Layout.modelWidth (now (models .entry)) row)) ⌝ }
 {
@@ -519,7 +523,7 @@ fn first_bad(part: Part, models: &[u64], slice: &[u64]) -> Found
     Found::Nothing
 }
 
-// Table intake: 1, then 2 in row order, then 3 in the order of the connectors and then of the couplings.
+// Table intake of any three slices, with the first bad row: 1, then 2 in row order, then 3 in the order of the connectors and then of the couplings.
 pub fn intake(models: &[u64], connectors: &[u64], couplings: &[u64]) -> Verdict
     ensures { λ r. ⌜ r ≡ verdictOf (Intake.intake (Layout.lent (now (models .entry)) (now (connectors .entry)) (now (couplings .entry)))) ⌝ }
 {

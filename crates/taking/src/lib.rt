@@ -47,7 +47,7 @@ fn next_addressed(state: &[u64], mem: &[u64], from: usize, active: usize, count:
     row
 }
 
-// The `count` active messages stand from `active` on.
+// Each model without parent, in row order, takes the active messages that are for it, in list order. These stand from `active` on, `count` of them.
 pub fn take_all(
     state: &[u64],
     services: &[f64],

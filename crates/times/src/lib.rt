@@ -44,7 +44,7 @@ pub fn is_time(x: f64) -> bool
     bits_of(x) <= 0x43B0_0000_0000_0000
 }
 
-// Whether x is a timer.
+// Whether x is a time or +infinity.
 pub fn is_timer(x: f64) -> bool
     ensures { λ r. ⌜ r ≡ isTimer x ⌝ }
 {
@@ -54,7 +54,7 @@ pub fn is_timer(x: f64) -> bool
     x == never()
 }
 
-// The time that has these bits.
+// The time that has these bits, or Bad where they are those of none.
 pub fn time_of_bits(bits: u64) -> TimeOf
     ensures { λ r. ⌜ r ≡ timeOfBits bits ⌝ }
 {
@@ -65,7 +65,7 @@ pub fn time_of_bits(bits: u64) -> TimeOf
     }
 }
 
-// The timer that has these bits.
+// The timer that has these bits, or NoTimer.
 pub fn timer_of_bits(bits: u64) -> TimerOf
     ensures { λ r. ⌜ r ≡ timerOfBits bits ⌝ }
 {
@@ -85,14 +85,14 @@ pub fn least(a: f64, b: f64) -> f64
     if b < a { b } else { a }
 }
 
-// What is left of a timer.
+// What is left of a timer: the timer less the advance, rounded once.
 pub fn after(timer: f64, advance: f64) -> f64
     ensures { λ r. ⌜ r ≡ sub binary64 timer advance ⌝ }
 {
     timer - advance
 }
 
-// The clock after an advance.
+// The clock plus the advance, rounded once; Overflow where that is no time.
 pub fn advance_clock(clock: f64, advance: f64) -> Later
     ensures { λ r. ⌜ r ≡ laterOf clock advance ⌝ }
 {

@@ -92,7 +92,7 @@ fn put_out(mem: &mut [u64], at: usize, port: u16, content: u64)
     mem[at] = port as u64 * 4294967296 + content;
 }
 
-// A message comes.
+// A message comes: the stopwatch's rule, done in the row's words.
 pub fn stopwatch_external(
     mem: &mut [u64],
     row: usize,
@@ -117,7 +117,7 @@ pub fn stopwatch_external(
     }
 }
 
-// Its timer has run out. What it puts out stands at `at`.
+// Its timer has run out: the stopwatch's rule, done in the row's words. What it puts out stands at `at`.
 pub fn stopwatch_internal(mem: &mut [u64], row: usize, model: Stopwatch, at: usize) -> Put
     requires { ⌜ Row (Table.stopwatch model) (beginIn (now mem) row) (now mem) row × (beginIn (now mem) row + 192 ≤ at) × (at + 64 ≤ length (now mem)) ⌝ }
     ensures gives { λ r. ⌜ ((services : List Float) → Gave r at (Table.stopwatch model) (beginIn (now (mem .entry)) row) row (now (mem .exit)) (atomInternal (Table.stopwatch model) services (stateIn (Table.stopwatch model) (beginIn (now (mem .entry)) row) (now (mem .entry)) row) (placeIn (now (mem .entry))))) ⌝ }

@@ -34,7 +34,7 @@ pub fn word_at(words: &[u64], place: usize) -> u64
     if place < words.len() { words[place] } else { 0 }
 }
 
-// Puts a job into the next place of a queue that holds `held`. Where there is no place, nothing changes.
+// Puts a job into the next place of a queue that holds `held`; all else stays. Where there is no place, nothing changes.
 pub fn push(words: &mut [u64], held: usize, job: u64)
     ensures { λ _. ⌜ now (words .exit) ≡ set (now (words .entry)) held job ⌝ }
 {
@@ -117,7 +117,7 @@ fn matches_at(words: &[u64], width: usize, row: usize, key: Key) -> bool
             && (holds(words, start, third) && holds(words, start, fourth)))
 }
 
-// The first row from `from` on, of the first `rows` rows of `width` words, in which each of the key's cells holds its word.
+// The first row from `from` on, of the first `rows` rows of `width` words, in which each of the key's cells holds its word; or Nothing.
 pub fn next_row(words: &[u64], width: usize, from: usize, rows: usize, key: Key) -> Found
     ensures { λ r. ⌜ r ≡ nextRow key width from rows (now (words .entry)) ⌝ }
 {
