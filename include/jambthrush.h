@@ -3,13 +3,30 @@
  * A simulation lives in a buffer of 64-bit words that the caller lends to each call (docs/LAYOUT.md). There is no hidden
  * state and no allocation: a buffer can be copied, stored in a file and handed in again, and two buffers are two simulations.
  *
- * Every call returns 0 or the number of a refusal (enum jt_refusal). A refused call changes neither the state buffer nor any
- * lent buffer; jt_step_n and jt_step_until keep the steps completed before the refused one. No table, message, time or buffer
- * can trap, hang or overflow a call; each checks all that it is handed, the state buffer first.
+ * Refusals. Every call returns 0 or the number of a refusal (enum jt_refusal). What a refused call leaves:
+ * - jt_step, jt_step_n, jt_step_until: the steps completed before the refused one stand, in the state and in `rows`, as if
+ *   just so many had been asked for; where none was completed, both are as they were. `report` is written by each of these
+ *   calls, refused or not: it is a part of the answer. Refused with JT_BAD_STATE, or for `until`, it is 0, 0, JT_END_REFUSED.
+ * - every other call: all that was lent is as it was, `report` of jt_get_status, `count` and `time` among it.
+ * Where a step is refused after others were completed, these are run a second time to leave them standing, so the call costs
+ * them twice; not with JT_IDLE and JT_CLOCK_OVERFLOW, which are decided before a step changes anything.
  *
- * A slice is a pointer and a length in elements. A pointer may be NULL where the length is 0. Buffers that one call is handed
- * must not overlap. `report`, `count` and `time` must point to memory of the size shown. One buffer is used by one call at a
- * time; calls on different buffers may run on different threads.
+ * Each call checks all that it is handed, the state buffer first, and no table, message, time or word in a buffer traps it or
+ * makes it write elsewhere. That is proved; what the proof rests on, and what it leaves to the caller, is in docs/TRUST.md.
+ *
+ * Time. Every call ends, but not every call ends soon. One message to a Coupled makes an event for each way along matching
+ * external input couplings, and ways multiply level by level: 64 such couplings in each of four nested Coupleds, and 256
+ * messages, make 2^32 events in one step. Measured on x86-64: 74 s on the five rows that this takes, 319 s where they are the
+ * last of 64 (bench/longest-step). It can come again in each step, with the clock standing still. And jt_step_n goes on for
+ * as many steps as it was asked for, also on a table that goes round at one clock, such as a batcher of max_batch_size 1 that
+ * feeds itself: the allowance of jt_step_until is the way out. Nothing ends a step halfway. docs/PROMISES.md, "How long a step
+ * can take".
+ *
+ * Memory. A slice is a pointer and a length in elements, aligned as its type asks. A pointer may be NULL where the length is
+ * 0. `report`, `count` and `time` point to memory of the size shown. What a call writes (a state that is not const, `rows`,
+ * `report`, `count`, `time`) overlaps nothing else that it is handed; what is only read may be lent twice. One buffer is used
+ * by one call at a time, unless all of them only read it; calls on different buffers may run on different threads. The
+ * processor's floating-point mode is as C starts it: to nearest, subnormal numbers kept (not so after gcc -ffast-math).
  *
  * Stack: under 64 KiB for tables of up to 8 rows, under 256 KiB for any (measured: docs/LAYOUT.md).
  */
@@ -35,11 +52,11 @@ enum jt_refusal {
     JT_NO_QUEUE_ROOM = 7,        /* a job would be kept, and 64 are */
     JT_NO_MESSAGE_ROOM = 8,      /* the 257th message active or put out, or the 65th parked */
     JT_NO_SERVICE_TIME = 9,      /* the list of service times is used up */
-    JT_BAD_TIME = 10,            /* a service time, an injected time or `until` is negative, above 2^60 or no number */
+    JT_BAD_TIME = 10,            /* a service time, an injected time or `until` is below 0, -0.0, above 2^60 or no number */
     JT_CLOCK_OVERFLOW = 11,      /* the new clock is above 2^60 */
     JT_IDLE = 12,                /* nothing left to do: no active message, every timer infinite */
     JT_NO_OUT_ROOM = 13,         /* the rows do not fit the output */
-    JT_BAD_STATE = 20            /* the state buffer is too short, or does not hold a simulation */
+    JT_BAD_STATE = 20            /* the state buffer is too short, or does not hold a simulation as docs/LAYOUT.md lays it */
 };
 
 /* report[2] of a run */
@@ -57,18 +74,20 @@ enum jt_status {
 /* Words of a row: a model, a connector, a coupling, a message. */
 enum { JT_MODEL_WORDS = 10, JT_CONNECTOR_WORDS = 4, JT_COUPLING_WORDS = 6, JT_MESSAGE_WORDS = 6 };
 
-/* How many words a state buffer must have for any state of a table of these lengths (in words); 0 where the table is too
- * large. The largest is 17286. Every call refuses a shorter buffer with JT_BAD_STATE, and leaves longer ones alone beyond
- * the state's end. */
+/* How many words a state buffer must have for any state of a table of these lengths (in words), at least 1542 and at most
+ * 17286. Every call refuses a shorter buffer with JT_BAD_STATE, and leaves longer ones alone beyond the state's end.
+ * 0 where the table is too large: no buffer is too short for it, and jt_post and jt_put refuse it with JT_TOO_LARGE. */
 size_t jt_state_words(size_t models_len, size_t connectors_len, size_t couplings_len);
 
 /* A new simulation of a table, written into the state buffer, of which only the length is looked at.
- * JT_BAD_STATE where it is shorter than jt_state_words says; else JT_TOO_LARGE, JT_BAD_ROW or JT_BAD_COUPLING. */
+ * JT_BAD_STATE where it is shorter than jt_state_words says; else JT_TOO_LARGE, JT_BAD_ROW or JT_BAD_COUPLING.
+ * A buffer of zeros, 1542 or more, holds the simulation of the empty table. So where a post into zeroed memory is refused and
+ * nobody looks, the next calls answer for that: a step with JT_IDLE, not with JT_BAD_STATE. */
 uint32_t jt_post(const uint64_t *models, size_t models_len, const uint64_t *connectors, size_t connectors_len,
                  const uint64_t *couplings, size_t couplings_len, uint64_t *state, size_t state_len);
 
-/* Fresh models of another table; active messages, clock and place in the service list stay. The buffer must be long enough
- * for the new table too (JT_BAD_STATE). */
+/* Fresh models of another table; active messages, clock and place in the service list stay. The buffer must hold a simulation
+ * and be long enough for the new table too (JT_BAD_STATE); then as jt_post. */
 uint32_t jt_put(uint64_t *state, size_t state_len, const uint64_t *models, size_t models_len,
                 const uint64_t *connectors, size_t connectors_len, const uint64_t *couplings, size_t couplings_len);
 
@@ -80,8 +99,8 @@ uint32_t jt_inject_input(uint64_t *state, size_t state_len, uint16_t source_id, 
  * of service times that processors read, one after the other, across calls: the state keeps its place in it. The messages of
  * each completed step go into `rows`, six words each, one straight after the other; jt_step_until does not collect those of
  * the step that reaches `until`, which stay active.
- * report[0]: steps completed; report[1]: rows written; report[2]: how it ended (enum jt_end). It is written by every call,
- * also a refused one. */
+ * report[0]: steps completed; report[1]: rows written; report[2]: how it ended (enum jt_end). What a refusal leaves, and how
+ * long a call can take: at the top. */
 uint32_t jt_step(uint64_t *state, size_t state_len, const double *services, size_t services_len,
                  uint64_t *rows, size_t rows_len, uint64_t report[3]);
 uint32_t jt_step_n(uint64_t *state, size_t state_len, const double *services, size_t services_len, uint64_t count,

@@ -503,6 +503,54 @@ static void test_nothing(void) {
     guarded_free(state);
 }
 
+/* ---- what the header says of refusals beyond their numbers */
+static void test_said_of_refusals(void) {
+    static uint64_t rows[650];
+    static uint64_t zeros[1542];
+    const double minus_zero[1] = {-0.0};
+    struct bench b;
+    uint64_t report[3] = {7, 7, 7};
+    uint64_t count = 7;
+    double clock = 7;
+    /* a table that is too large needs no words */
+    CHECK_NUMBER(JT_TOO_LARGE, jt_post(rows, 641, NULL, 0, NULL, 0, NULL, 0));
+    CHECK_NUMBER(JT_TOO_LARGE, jt_put(zeros, 1542, rows, 641, NULL, 0, NULL, 0));
+    CHECK_NUMBER(JT_BAD_STATE, jt_put(zeros, 1541, rows, 641, NULL, 0, NULL, 0));
+    /* zeros are the empty table, and a run that is refused at once still reports */
+    CHECK_NUMBER(JT_BAD_STATE, jt_step(zeros, 1541, NULL, 0, NULL, 0, report));
+    CHECK(report[0] == 0 && report[1] == 0 && report[2] == JT_END_REFUSED);
+    report[2] = 7;
+    CHECK_NUMBER(JT_IDLE, jt_step(zeros, 1542, NULL, 0, NULL, 0, report));
+    CHECK(report[0] == 0 && report[1] == 0 && report[2] == JT_END_REFUSED);
+    report[2] = 7;
+    CHECK_NUMBER(JT_BAD_TIME, jt_step_until(zeros, 1542, NULL, 0, -0.0, 1, NULL, 0, report));
+    CHECK(report[0] == 0 && report[1] == 0 && report[2] == JT_END_REFUSED);
+    CHECK_NUMBER(JT_BAD_STATE, jt_get_messages(zeros, 1541, NULL, 0, &count));
+    CHECK_NUMBER(JT_BAD_STATE, jt_get_global_time(zeros, 1541, &clock));
+    CHECK(count == 7 && clock == 7);
+    bench_run(&b);
+    CHECK_NUMBER(JT_BAD_TIME, jt_step_n(b.state.words, b.state.len, minus_zero, 1, 9, rows, 650, report));
+    CHECK(report[0] == 1 && report[1] == 2 && report[2] == JT_END_REFUSED);
+    guarded_free(b.state);
+    /* at its capacity a processor drops; with room by its capacity the 65th job is refused */
+    for (uint64_t capacity = 64; capacity <= 65; capacity++) {
+        memset(&b, 0, sizeof b);
+        processor(&b, 1, capacity);
+        post(&b);
+        for (uint32_t job = 0; job < 65; job++)
+            CHECK_NUMBER(JT_OK, inject(&b, 1, 1, job));
+        CHECK_NUMBER(capacity == 64 ? JT_OK : JT_NO_QUEUE_ROOM, step(&b, services, 3));
+        guarded_free(b.state);
+    }
+    /* what is only read may be lent twice */
+    memset(&b, 0, sizeof b);
+    coupled(&b, 1, 0, 0);
+    b.state = guarded_new(jt_state_words(10, 8, 0));
+    CHECK_NUMBER(JT_OK, jt_post(b.models, 10, b.models, 8, NULL, 0, b.state.words, b.state.len));
+    CHECK(same(b.models, b.state.words + 3, 10) && same(b.models, b.state.words + 13, 8));
+    guarded_free(b.state);
+}
+
 int main(void) {
     test_bench_listing();
     test_step_until();
@@ -518,5 +566,6 @@ int main(void) {
     test_bad_marks();
     test_beyond();
     test_nothing();
+    test_said_of_refusals();
     return tell("calls");
 }
