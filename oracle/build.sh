@@ -1,6 +1,6 @@
 #!/bin/sh
-# Builds the oracle: build.sh [path of the Rust: a folder that holds sim/src] [options for cargo]
-# SIM_SRC, SIM_CRATES  as prepare.sh has them
+# Builds the oracle: build.sh [FOLDER] [options for cargo]. The FOLDER is the original Rust's, as prepare.sh has it.
+# SIM_SRC, SIM_CRATES  as prepare.sh has them; one of FOLDER and SIM_SRC must be given
 # SIM_PROFILE          release if left out; dev also tells of overflows, as a panic
 set -eu
 here=$(cd "$(dirname "$0")" && pwd)

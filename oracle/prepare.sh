@@ -1,30 +1,36 @@
 #!/bin/sh
 # Makes build/sim, the published Rust with the stand-ins, and build/crates.toml, which says where cargo takes crates from:
-# prepare.sh [path of the Rust: a folder that holds sim/src]
-# SIM_SRC     the same path, where the argument is left out; else docs/src here or in the shared folder beside the project
+# prepare.sh [FOLDER]
+# SIM_SRC     the FOLDER, where it is left out: a checkout of ndebuhr/sim at commit 255a5e4e0d (2025-04-27). It holds sim/src.
 # SIM_CRATES  a folder of crates (cargo's directory source); if left out, Debian's packages, which are installed where they are missing
+# Exit status: 2 where the folder is not named, or is not such a checkout.
 set -eu
 here=$(cd "$(dirname "$0")" && pwd)
-src=${1:-${SIM_SRC:-$here/../docs/src}}
-[ $# -gt 0 ] || [ -n "${SIM_SRC:-}" ] || [ -e "$src" ] || src=$here/../../shared/docs/src
-[ -f "$src/sim/src/lib.rs" ] || { echo "no sim/src/lib.rs in $src: SIM_SRC names the folder" >&2; exit 1; }
+refuse() {
+    echo "oracle: $1" >&2
+    echo 'oracle: set SIM_SRC to a checkout of ndebuhr/sim at commit 255a5e4e0d (2025-04-27): the folder that holds sim/src' >&2
+    exit 2
+}
+src=${1:-${SIM_SRC:-}}
+[ -n "$src" ] || refuse 'the original Rust is needed, and SIM_SRC is not set'
+[ -d "$src/sim/src" ] || refuse "there is no folder sim/src in $src"
 src=$(cd "$src" && pwd)
 cd "$here"
+wrong=$(cd "$src" && sha256sum -c "$here/published.sha256" 2> /dev/null | sed -n 's/: FAILED.*//p' | head -n 1)
+[ -z "$wrong" ] || refuse "$src/$wrong is missing, or is not the file of that commit"
 
-# The published files, copied as they are; then the stand-ins, only where no published file is.
+# The published files, copied as they are, beside the stand-ins. published.sha256 lists them; other files of a checkout are not
+# used: those of which there is a stand-in, and tests.
 mkdir -p build
 rm -rf build/new
 cp -R stand-ins/sim build/new
 chmod -R u+w build/new
-(cd "$src/sim/src" && find . -name '*.rs') | sort | while read -r file; do
-    if [ -e "build/new/src/$file" ]; then
-        echo "a stand-in is no longer needed: $file" >&2
-        exit 1
-    fi
-    mkdir -p "build/new/src/$(dirname "$file")"
-    cp "$src/sim/src/$file" "build/new/src/$file"
-    chmod u+w "build/new/src/$file"
-    cmp "$src/sim/src/$file" "build/new/src/$file"
+sed 's/^[^ ]* *//' published.sha256 | while read -r file; do
+    copy=build/new/${file#sim/}
+    mkdir -p "$(dirname "$copy")"
+    cp "$src/$file" "$copy"
+    chmod u+w "$copy"
+    cmp "$src/$file" "$copy"
 done
 
 # Files that are the same keep their age, so that cargo does not compile them again.
