@@ -16,11 +16,11 @@
  *
  * Time. Every call ends, but not every call ends soon. One message to a Coupled makes an event for each way along matching
  * external input couplings, and ways multiply level by level: 64 such couplings in each of four nested Coupleds, and 256
- * messages, make 2^32 events in one step. Measured on x86-64: 74 s on the five rows that this takes, 319 s where they are the
- * last of 64 (bench/longest-step). It can come again in each step, with the clock standing still. And jt_step_n goes on for
- * as many steps as it was asked for, also on a table that goes round at one clock, such as a batcher of max_batch_size 1 that
- * feeds itself: the allowance of jt_step_until is the way out. Nothing ends a step halfway. docs/PROMISES.md, "How long a step
- * can take".
+ * messages, make 2^32 events in one step. Measured on x86-64: some 75 s on the five rows that this takes, 270 to 320 s where
+ * they are the last of 64 (bench/longest-step). It can come again in each step, with the clock standing still. And jt_step_n
+ * goes on for as many steps as it was asked for, also on a table that goes round at one clock, such as a batcher of
+ * max_batch_size 1 that feeds itself: the allowance of jt_step_until is the way out. Nothing ends a step halfway.
+ * docs/PROMISES.md, "How long a step can take".
  *
  * Memory. A slice is a pointer and a length in elements, aligned as its type asks. A pointer may be NULL where the length is
  * 0. `report`, `count` and `time` point to memory of the size shown. What a call writes (a state that is not const, `rows`,
