@@ -6,6 +6,7 @@ use mathlib.Core.Path.{_≡_}
 use mathlib.Core.List.{List, [], _∷_, _++_}
 use lib.Dec.{T}
 use Rattle.rules.specs.declared.Batcher.{Batcher}
+use Rattle.rules.specs.Table.{Table, batcher, kindAt}
 use Rattle.rules.specs.Simulation.{ofBatcher, Simulation, stateAt}
 use Rattle.rules.specs.Step.{Happening}
 use Rattle.rules.specs.Calls as Calls
@@ -16,7 +17,7 @@ use Rattle.rerunning.specs.Running.{simOf}
 use Rattle.storing.specs.State.{stateWords, isStored}
 use Rattle.storing.specs.Lent.{callIn, left, postIn, putIn, leftAnew, runIn, leftByRun}
 use Rattle.host.specs.Numbers.{numberOf, endNumber}
-use Rattle.promises.specs.Story.{stateThen, BeginsFresh, SixElsewhere, happened, leftBy, Demand, Beyond}
+use Rattle.promises.specs.Story.{stateThen, CapacityNone, SixElsewhere, happened, leftBy, Demand, Beyond}
 
 -- ---- the buffer after a call: `leaves` of its contract
 abbrev pub after : Call → List ℕ → List ℕ
@@ -95,5 +96,10 @@ pub record ChainDemand (state : List ℕ) (cs : List Call) (row : ℕ) (b : Batc
   pub beyond : Beyond (simOf state) cs row b
   -- in the buffer at last stands the batcher as its history in the chain makes it
   pub stands : stateAt (simOf (chain cs state) .states) row ≡ ofBatcher (stateThen b row (chainTold cs state))
-  -- "InvalidModelState never comes from it": the next call returns 6 only where the table has a processor of capacity 0, or another batcher that did not begin in its default state
-  pub six : (c : Call) → CallFits c → returned c (chain cs state) ≡ 6 → SixElsewhere (simOf state .table) (BeginsFresh (simOf state))
+  -- "InvalidModelState never comes from it": the next call returns 6 only where the table has a processor of capacity 0, or another batcher that was handed in, in Release with h + 1 < m
+  pub six : (c : Call) → CallFits c → returned c (chain cs state) ≡ 6 → SixElsewhere (simOf state)
+
+-- ---- where jt_post or jt_put has laid the table t into `state`: the demand on every batcher row of t; and 6 is then a processor's of capacity 0
+pub record ChainOfAll (state : List ℕ) (t : Table) (cs : List Call) : Type 0 where
+  pub demand : (row : ℕ) (b : Batcher) → kindAt t row ≡ batcher b → ChainDemand state cs row b
+  pub six : (c : Call) → CallFits c → returned c (chain cs state) ≡ 6 → CapacityNone t

@@ -39,9 +39,10 @@ use Rattle.posting.specs.WholeLaws.{room-for}
 use Rattle.simulation.specs.CallLaws as call
 use Rattle.host.specs.Numbers.{numberOf, endNumber}
 use Rattle.promises.specs.Story.{stateThen, BeginsFresh, CapacityNone, leftBy}
-use Rattle.promises.specs.Demand3.{Begins, AllFresh, ends-done, fresh-begins, capacity-alone, post-fresh, put-fresh, six-elsewhere, demanded, beyond}
+use Rattle.promises.specs.Demand3.{AllFresh, ends-done, fresh-begins, capacity-alone, post-fresh, put-fresh, demanded, beyond}
+use Rattle.promises.specs.Six.{six-elsewhere}
 use Rattle.promises.specs.Machine.{Any}
-use Rattle.chains.specs.Chain.{after, returned, told, chain, chainTold, afterPost, returnedByPost, afterPut, returnedByPut, BufferHolds, needed, ChainDemand}
+use Rattle.chains.specs.Chain.{after, returned, told, chain, chainTold, afterPost, returnedByPost, afterPut, returnedByPut, BufferHolds, needed, ChainDemand, ChainOfAll}
 
 -- ---- a call keeps the table: an instance of `Runs.Carried`
 same-table : (t : Table) → Carried NotTwenty (λ sim log. Valid sim × (sim .table ≡ t))
@@ -375,32 +376,25 @@ six-ends state stored cs fs c h =
     let (last, is) = chain-holds cs state stored fs in
     ap (λ (sim : Simulation). called c sim .end) (sym is) ∙ six-is (called c (simOf (chain cs state)) .end) (sym (returned-is (chain cs state) last c) ∙ h)
 
-begins-demand : (state : List ℕ) → T (isStored state) → (row : ℕ) → Begins (simOf state) row → (cs : List Call) → All CallFits cs → (b : Batcher) → kindAt (simOf state .table) row ≡ batcher b
-    → ChainDemand state cs row b
-begins-demand state stored row begins cs fs b e =
+pub chain-demand : (state : List ℕ) → T (isStored state) → (cs : List Call) → All CallFits cs → (row : ℕ) (b : Batcher) → kindAt (simOf state .table) row ≡ batcher b → BeginsFresh (simOf state) row → ChainDemand state cs row b
+chain-demand state stored cs fs row b e default =
+    let v = valid-of (simOf state) (valid state stored) in
     let (last, is) = chain-holds cs state stored fs in
     let tells = chain-tells cs state stored fs in
-    let d = demanded (simOf state) row begins cs fs b e in
+    let d = demanded (simOf state) v cs fs row b e default in
     record {
       holds = (last, is);
       tells = tells;
       demand = d;
-      beyond = beyond (simOf state) row begins cs fs b e;
+      beyond = beyond (simOf state) v cs fs row b e default;
       stands = ap (λ (sim : Simulation). stateAt (sim .states) row) is ∙ d .state ∙ ap (λ (log : List Happening). ofBatcher (stateThen b row log)) (sym tells);
       six = λ c f h. d .six-is-anothers c f (six-ends state stored cs fs c h);
     }
 
-pub chain-demand : (state : List ℕ) → T (isStored state) → (cs : List Call) → All CallFits cs → (row : ℕ) (b : Batcher) → kindAt (simOf state .table) row ≡ batcher b → BeginsFresh (simOf state) row → ChainDemand state cs row b
-chain-demand state stored cs fs row b e f = begins-demand state stored row (record { valid = valid-of (simOf state) (valid state stored); default = f }) cs fs b e
-
--- ---- instances: where jt_post, or jt_put, returned 0, for every batcher row of the lent table; and 6 is then a processor's of capacity 0
-pub record ChainOfAll (state : List ℕ) (t : Table) (cs : List Call) : Type 0 where
-  pub demand : (row : ℕ) (b : Batcher) → kindAt t row ≡ batcher b → ChainDemand state cs row b
-  pub six : (c : Call) → CallFits c → returned c (chain cs state) ≡ 6 → CapacityNone t
-
+-- ---- instances: where jt_post, or jt_put, returned 0
 of-fresh : (state : List ℕ) (t : Table) → T (isStored state) → simOf state .table ≡ t → AllFresh (simOf state) → (cs : List Call) → All CallFits cs → ChainOfAll state t cs
 of-fresh state t stored is fresh cs fs = record {
-  demand = λ row b e. let k = ap (λ (t : Table). kindAt t row) is ∙ e in begins-demand state stored row (fresh-begins (simOf state) fresh row b k) cs fs b k;
+  demand = λ row b e. let k = ap (λ (t : Table). kindAt t row) is ∙ e in chain-demand state stored cs fs row b k (fresh-begins (simOf state) fresh row b k);
   six = λ c f h. subst CapacityNone is (capacity-alone (simOf state) fresh (six-elsewhere (simOf state) (fresh .valid) cs fs c f (six-ends state stored cs fs c h)));
 }
 

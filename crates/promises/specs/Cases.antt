@@ -1,12 +1,12 @@
--- The demand seen on runs that the checker computes: 01's C1 and C3, a busy batcher with later arrivals, a batch that grows while it waits, a batcher inside a Coupled, refused steps. Assumes nothing.
+-- The demand seen on runs that the checker computes: 01's C1 and C3, a busy batcher with later arrivals, a batch that grows while it waits, a batcher inside a Coupled, refused steps, a batcher beside one that was handed in with a job. Assumes nothing.
 use Prim.Native.Nat.{ℕ, _<_}
-use mathlib.Core.Path.{_≡_, refl}
+use mathlib.Core.Path.{_≡_, refl, ap, _∙_}
 use mathlib.Core.List.{List, [], _∷_, _++_, map}
 use native.Mathlib.Omega.{arith}
 use lib.Dec.{T}
 use lib.Ieee.{Float, add, sub, lt, le, eq, fits, ofBits, toBits, binary64}
 use Rattle.times.specs.Time.{instant, isTime, isTimer, leastOf}
-use Rattle.rules.specs.declared.Refusal.the-variants.{NoQueueRoom}
+use Rattle.rules.specs.declared.Refusal.{Refusal}
 use Rattle.rules.specs.declared.BatcherPhase.the-variants as batching
 use Rattle.rules.specs.declared.Batcher.{Batcher}
 use Rattle.rules.specs.Base.{Outcome, refused, done, from}
@@ -38,7 +38,7 @@ sent contents = map (λ c. InjectInput (job 1 1 c)) contents
 abbrev pub stepped : ℕ → List Call
 stepped n = StepN [] 256 n ∷ []
 
--- ---- what is seen of a batcher's row after calls on a new simulation, with the clock's bits
+-- ---- what is seen of a batcher's row after calls, with the clock's bits
 pub record Seen : Type 0 where
   pub accepted : List ℕ
   pub releases : List (List ℕ)
@@ -79,7 +79,7 @@ mixed = tableOf (row 1 (aBatcher 2 ten) ∷ row 2 (aProcessor 0) ∷ []) []
 abbrev pub numbers : ℕ → List ℕ
 numbers n = from 1 n
 
--- two batchers (m = 2), of which a caller hands in the second with a job: Batching with 91, 4 left of its batch time; or in Release, as none gets from its default state
+-- two batchers (m = 2), the second as a caller hands it in: Batching with 91 and 4 left of its batch time; or in Release with nothing held, as no event leaves one
 abbrev pub two : Table
 two = tableOf (row 1 (aBatcher 2 ten) ∷ row 2 (aBatcher 2 ten) ∷ []) []
 
@@ -122,13 +122,13 @@ pub record Cases : Type 0 where
   pub no-count : seen largest 0 (sent (numbers 65) ++ stepped 1) ≡ record { accepted = []; releases = []; state = noBatch; clock = 0 }
   -- 6 comes from the processor of capacity 0, and the batcher before it has accepted nothing
   pub six-of-another : ends mixed (sent (11 ∷ []) ++ InjectInput (job 2 1 12) ∷ []) (Step [] 256) ≡ 6
+  pub six-undone : seen mixed 0 (sent (11 ∷ []) ++ InjectInput (job 2 1 12) ∷ stepped 1) ≡ record { accepted = []; releases = []; state = noBatch; clock = 0 }
   -- a job handed in at the other batcher: the fresh one does as ever, and the other's job goes when its time is over
   pub beside-held : seenFrom (handedIn (batch (91 ∷ []) four)) 0 (sent (11 ∷ []) ++ stepped 1) ≡ record { accepted = 11 ∷ []; releases = []; state = batch (11 ∷ []) ten; clock = 0 }
   pub beside-goes : seenFrom (handedIn (batch (91 ∷ []) four)) 0 besides ≡ record { accepted = 11 ∷ []; releases = (11 ∷ []) ∷ []; state = noBatch; clock = 0x4024_0000_0000_0000 }
   pub beside-releases : seenFrom (handedIn (batch (91 ∷ []) four)) 1 besides .releases ≡ (91 ∷ []) ∷ []
-  -- 6 from a batcher that did not begin in its default state: in Release, and one more would not fill its batch
+  -- 6 from a batcher that was handed in, in Release, where one more does not fill its batch
   pub six-handed-in : ending (called (Step [] 256) (calls (InjectInput (job 2 1 12) ∷ []) (handedIn (release [])) .0) .end) ≡ 6
-  pub six-undone : seen mixed 0 (sent (11 ∷ []) ++ InjectInput (job 2 1 12) ∷ stepped 1) ≡ record { accepted = []; releases = []; state = noBatch; clock = 0 }
 
 pub cases : Cases
 unfolding isTime isTimer leastOf add sub lt le eq fits ofBits toBits service processorExternal processorInternal batcherExternal batcherInternal stopwatchExternal stopwatchInternal timer external internal stepOn intake passesIntake isValid injectInput steps stepN step called seenFrom ends
@@ -151,7 +151,7 @@ cases = record {
   six-undone = refl;
 }
 
--- ---- the theorems themselves on two of these runs
+-- ---- the theorems themselves on three of these runs
 abbrev pub takes : Float → ℕ → ℕ → Happening
 takes clock i content = came clock i 1 content Kept
 
@@ -320,7 +320,7 @@ pub record ShutOut : Type 0 where
   pub restarted-timer : T (le ten six) → ⊥
   pub restarted-wait : Within ten (instant ∷ four ∷ instant ∷ ten ∷ []) → ⊥
   -- a batcher that accepts nothing: it refuses every job, or takes it and keeps none
-  pub accepts-nothing : AcceptsWithRoom (λ b job s. refused NoQueueRoom) of-two freshBatcher → ⊥
+  pub accepts-nothing : (r : Refusal) → AcceptsWithRoom (λ b job s. refused r) of-two freshBatcher → ⊥
   pub keeps-nothing : AcceptsWithRoom (λ b job s. done s) of-two freshBatcher → ⊥
 
 pub shut-out : ShutOut
@@ -334,6 +334,6 @@ shut-out = record {
   another-of-its-content = λ h. let z : _≡_ {A = ℕ} 1 0 = h .itself in omega arith;
   restarted-timer = λ t. t;
   restarted-wait = λ h. h .1 .1 .1 .0;
-  accepts-nothing = λ h. let e : _≡_ {A = Outcome BatcherState} (refused NoQueueRoom) (done freshBatcher) = h 11 (omega arith) .0 in let z : _≡_ {A = ℕ} 0 1 = cc in omega arith;
-  keeps-nothing = λ h. let e : _≡_ {A = List ℕ} [] (11 ∷ []) = h 11 (omega arith) .1 in let z : _≡_ {A = ℕ} 0 1 = cc in omega arith;
+  accepts-nothing = λ r h. let e : _≡_ {A = Outcome BatcherState} (refused r) (done (h 11 (omega arith) .0)) = h 11 (omega arith) .1 in let z : _≡_ {A = ℕ} 0 1 = cc in omega arith;
+  keeps-nothing = λ h. let k = h 11 (omega arith) in let d : freshBatcher ≡ k .0 = cc in let e : _≡_ {A = List ℕ} [] (11 ∷ []) = ap (λ (s : BatcherState). s .jobs) d ∙ k .2 in let z : _≡_ {A = ℕ} 0 1 = cc in omega arith;
 }

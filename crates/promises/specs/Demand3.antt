@@ -16,26 +16,21 @@ use Rattle.rules.specs.declared.Refusal.the-variants.{InvalidModelState, NoQueu
 use Rattle.rules.specs.declared.BatcherPhase.{BatcherPhase}
 use Rattle.rules.specs.declared.BatcherPhase.the-variants as batching
 use Rattle.rules.specs.declared.Batcher.{Batcher}
-use Rattle.rules.specs.Sizes.{isWord, mostJobs}
 use Rattle.rules.specs.Base.{Outcome, refused, done}
 use Rattle.rules.specs.Table.{Kind, batcher, Table, kindAt}
 use Rattle.rules.specs.Intake.{Posted, intake, takenIn, passesIntake}
 use Rattle.rules.specs.Simulation.{BatcherState, State, ofProcessor, ofBatcher, ofStopwatch, ofCoupled, Simulation, fresh, freshAll, freshBatcher, begun, stateAt, asBatcher}
 use Rattle.rules.specs.Models.{Kept, batcherExternal}
-use Rattle.rules.specs.Step.{Happening, came, World, externalAs, external, oneStep}
-use Rattle.rules.specs.Calls.{Refused, post, put, Call, called}
+use Rattle.rules.specs.Step.{Happening, came, World, externalAs, external}
+use Rattle.rules.specs.Calls.{post, put, Call}
 use Rattle.rules.specs.Valid.{isValid}
 use Rattle.rules.specs.Ends.{All, Ends, stops, goes, ends-if, ends-bind, ends-map, ends-refused}
 use Rattle.rules.specs.Depth.{Fine, fine}
 use Rattle.rules.specs.Worlds.{worldOf}
-use Rattle.rules.specs.Runs.{Valid, valid-of, step-ends, EndsWell, CallFits, Carried, called-keeps, calls-keeps, begun-valid, fresh-at, put-valid, post-valid}
-use Rattle.promises.specs.Story.{Event, Accepted, history, joined, accepted, releases, released, doneOr, afterEvent, stateThen, Lawful, Moment, Acceptance, ahead, eventNumber, placeInIt, Comes, eventAt, Leaves, BeginsFresh, CapacityNone, SixElsewhere, happened, leftBy, Demand, advancesUntil, Within, Beyond}
-use Rattle.promises.specs.Machine.{Sized, Shape, Sound, fresh-sound, NoRoom, Took, accept-ends, accept-takes, history-sound, conserved, Goes, goes-in, counts-down, history-append, lawful-split, Lived, Told, this-row, Any, any-ends, SixIsAnothers, other-not-six, row-sized, lived-sound, ToldIn, told-closed}
-
--- ---- where a run begins: a valid simulation in which the batcher's row is in its default state
-pub record Begins (start : Simulation) (row : ℕ) : Type 0 where
-  pub valid : Valid start
-  pub default : BeginsFresh start row
+use Rattle.rules.specs.Runs.{Valid, valid-of, step-ends, CallFits, Carried, calls-keeps, begun-valid, fresh-at, put-valid, post-valid}
+use Rattle.promises.specs.Story.{Event, Accepted, history, joined, accepted, releases, released, afterEvent, stateThen, Lawful, Moment, Acceptance, ahead, eventNumber, placeInIt, Comes, eventAt, Leaves, BeginsFresh, CapacityNone, SixElsewhere, happened, leftBy, Demand, advancesUntil, Within, AcceptsWithRoom, Beyond, OfAll}
+use Rattle.promises.specs.Six.{six-elsewhere}
+use Rattle.promises.specs.Machine.{Sized, Shape, Sound, fresh-sound, NoRoom, Took, accept-ends, accept-takes, history-sound, conserved, Goes, goes-in, counts-down, history-append, lawful-split, Lived, Told, this-row, Any, any-ends, row-sized, lived-sound, ToldIn, told-closed}
 
 -- a batcher's default state, as a test
 abbrev freshParts : BatcherPhase → Float → List ℕ → Bool
@@ -84,13 +79,15 @@ pub begun-fresh : (t : Table) → T (passesIntake t) → AllFresh (begun t)
 begun-fresh t f = record { valid = begun-valid t f; default = refl }
 
 -- so every batcher in it begins
-pub fresh-begins : (start : Simulation) → AllFresh start → (row : ℕ) (b : Batcher) → kindAt (start .table) row ≡ batcher b → Begins start row
-fresh-begins start h row b e = record { valid = h .valid; default = ap (λ (z : List State). stateAt z row) (h .default) ∙ fresh-at (start .table) row ∙ ap fresh e }
+pub fresh-begins : (start : Simulation) → AllFresh start → (row : ℕ) (b : Batcher) → kindAt (start .table) row ≡ batcher b → BeginsFresh start row
+fresh-begins start h row b e = ap (λ (z : List State). stateAt z row) (h .default) ∙ fresh-at (start .table) row ∙ ap fresh e
 
--- and 6 comes from a processor of capacity 0 alone
-pub capacity-alone : (start : Simulation) → AllFresh start → SixElsewhere (start .table) (BeginsFresh start) → CapacityNone (start .table)
+-- and 6 comes from a processor of capacity 0 alone: Passive is not Release
+pub capacity-alone : (start : Simulation) → AllFresh start → SixElsewhere start → CapacityNone (start .table)
 capacity-alone start h (inl c) = c
-capacity-alone start h (inr (i, b, e, n)) = absurd (n (fresh-begins start h i b e .default))
+capacity-alone start h (inr (i, b, s, e, q, phase, l)) =
+    let is : freshBatcher ≡ s = ap asBatcher (sym (fresh-begins start h i b e) ∙ q) in
+    absurd (let d : batching.Passive ≡ batching.Release = ap (λ (z : BatcherState). z .phase) is ∙ phase in let z : _≡_ {A = ℕ} 0 1 = cc in omega arith)
 
 post-default : (p : Posted) → Ends Any (λ (s : Simulation). s .states ≡ freshAll (s .table)) (post p)
 unfolding post
@@ -109,38 +106,28 @@ pub put-fresh : (p : Posted) (sim next : Simulation) → put p sim ≡ done next
 put-fresh p sim next e = let k = ends-done (put-default p sim) e in record { valid = valid-of next (ends-done (put-valid p sim (k .0)) e); default = k .1 }
 
 -- ---- a simulation that calls lead to: it is valid, of the same table, and its log tells of every batcher that began in its default state
-pub record Reached (t : Table) (since : ℕ → Bool) (sim : Simulation) (log : List Happening) : Type 0 where
+pub record Reached (t : Table) (rows : ℕ → Bool) (sim : Simulation) (log : List Happening) : Type 0 where
   pub valid : Valid sim
   pub table : sim .table ≡ t
-  pub told : Told t since log (sim .states)
+  pub told : Told t rows log (sim .states)
 
-module _ (t : Table) (since : ℕ → Bool) where
-  reached-forward : (services : List Float) (sim : Simulation) (log : List Happening) → T (isWord (length services)) → Reached t since sim log
-      → Ends (SixIsAnothers t since) (λ r. Reached t since (r .0) (log ++ r .1)) (oneStep services sim)
-  reached-forward services sim log short h =
-      ends-map (step-ends (SixIsAnothers (sim .table) since) (ToldIn (sim .table) ok since log) services sim short (told-closed (sim .table) ok since log) (h .valid) now)
-      (λ r b e. subst (λ (z : Table). SixElsewhere z (λ i. T (since i))) (h .table) (b e))
-      (λ r k. record { valid = k .0; table = k .1 ∙ h .table; told = subst (λ (z : Table). Told z since (log ++ r .1) (r .0 .states)) (h .table) (k .2) })
-    where
-      ok : Fine (sim .table)
-      ok = fine (sim .table) (h .valid .table)
-
-      now : ToldIn (sim .table) ok since log (worldOf sim [])
-      now = subst (λ (z : List Happening). Told (sim .table) since z (sim .states)) (sym (append-nil log)) (subst (λ (z : Table). Told z since log (sim .states)) (sym (h .table)) (h .told))
-
-  carried : Carried (SixIsAnothers t since) (Reached t since)
-  carried = record {
-    other = other-not-six t since;
-    valid = λ sim log h. h .valid;
-    change = λ sim next log e f g v h. record { valid = v; table = e ∙ h .table; told = subst (Told t since log) (sym f) (h .told) };
-    forward = reached-forward;
-  }
+carried : (t : Table) (rows : ℕ → Bool) → Carried Any (Reached t rows)
+carried t rows = record {
+  other = λ r o. tt;
+  valid = λ sim log h. h .valid;
+  change = λ sim next log e f g v h. record { valid = v; table = e ∙ h .table; told = subst (Told t rows log) (sym f) (h .told) };
+  forward = λ services sim log short h.
+      let ok = fine (sim .table) (h .valid .table) in
+      let now : ToldIn (sim .table) ok rows log (worldOf sim []) = subst (λ (z : List Happening). Told (sim .table) rows z (sim .states)) (sym (append-nil log)) (subst (λ (z : Table). Told z rows log (sim .states)) (sym (h .table)) (h .told)) in
+      ends-map (step-ends Any (ToldIn (sim .table) ok rows log) services sim short (told-closed (sim .table) ok rows log) (h .valid) now) (λ r _. tt)
+      (λ r k. record { valid = k .0; table = k .1 ∙ h .table; told = subst (λ (z : Table). Told z rows (log ++ r .1) (r .0 .states)) (h .table) (k .2) });
+}
 
 starts-reached : (start : Simulation) → Valid start → Reached (start .table) (began start) start []
 starts-reached start v = record { valid = v; table = refl; told = λ row b e since. record { lawful = tt; state = fresh-is (stateAt (start .states) row) since } }
 
 pub calls-reach : (start : Simulation) → Valid start → (cs : List Call) → All CallFits cs → Reached (start .table) (began start) (leftBy start cs) (happened start cs)
-calls-reach start v cs fs = calls-keeps (SixIsAnothers (start .table) (began start)) (Reached (start .table) (began start)) (carried (start .table) (began start)) cs start [] fs (starts-reached start v)
+calls-reach start v cs fs = calls-keeps Any (Reached (start .table) (began start)) (carried (start .table) (began start)) cs start [] fs (starts-reached start v)
 
 -- ---- releases counted from 0, and internal events numbered from 1
 numbered : (b : Batcher) (ok : Sized b) (events : List (List ℕ)) (q r v p : ℕ) → Goes b ok events q r v p → Leaves events (q + 1) r v p
@@ -230,22 +217,21 @@ seven-not-six r h e = let z : _≡_ {A = ℕ} 0 1 = cc in omega arith
 not-six : (b : Batcher) → Sized b → (job : ℕ) (s : BatcherState) → Sound b s → batcherExternal b job s ≡ refused InvalidModelState → ⊥
 not-six b ok job s good q = seven-not-six InvalidModelState (ends-refused (accept-ends b ok job s good) q .seven) refl
 
-takes : (b : Batcher) → Sized b → (job : ℕ) (s : BatcherState) → Sound b s → length (s .jobs) + 1 ≤ mostJobs
-    → (batcherExternal b job s ≡ done (afterEvent b (Accepted job) s)) × (afterEvent b (Accepted job) s .jobs ≡ s .jobs ++ job ∷ [])
-takes b ok job s good l = go (accept-ends b ok job s good)
+takes : (b : Batcher) → Sized b → (s : BatcherState) → Sound b s → AcceptsWithRoom batcherExternal b s
+takes b ok s good job l = go (accept-ends b ok job s good)
   where
-    go : {o : Outcome BatcherState} → Ends (NoRoom s) (Took b job s) o → (o ≡ done (doneOr s o)) × (doneOr s o .jobs ≡ s .jobs ++ job ∷ [])
+    go : {o : Outcome BatcherState} → Ends (NoRoom s) (Took b job s) o → (next : BatcherState) × (o ≡ done next) × (next .jobs ≡ s .jobs ++ job ∷ [])
     go (stops n) = let f = n .full in absurd (omega arith)
-    go (goes k) = (refl, k .last)
+    go (goes {a = next} k) = (next, refl, k .last)
 
 full-in-release : (b : Batcher) (s : BatcherState) → Sound b s → s .phase ≡ batching.Release → b .«max_batch_size» ≤ length (s .jobs)
 full-in-release b s good e = subst (λ (z : BatcherPhase). Shape z (length (s .jobs)) (b .«max_batch_size»)) e (good .shape)
 
--- in every world whose log tells of its batchers, and so in every world that a step passes through, of a step that is refused later too (`Machine.told-closed`), no event at a batcher that began in its default state gives 6
-pub event-never-six : (t : Table) → Fine t → (since : ℕ → Bool) (services : List Float) (w : World) (log : List Happening) → Told t since log (w .states) → (row : ℕ) (b : Batcher) → kindAt t row ≡ batcher b
-    → T (since row) → (depth : ℕ) (clock : Float) (port job : ℕ) → external t services (suc depth) clock row port job w ≡ refused InvalidModelState → ⊥
+-- in every world whose log tells of its batchers, which each event of a step keeps (`Machine.told-closed`), no event at a batcher that began in its default state gives 6
+pub event-never-six : (t : Table) → Fine t → (rows : ℕ → Bool) (services : List Float) (w : World) (log : List Happening) → Told t rows log (w .states) → (row : ℕ) (b : Batcher) → kindAt t row ≡ batcher b
+    → T (rows row) → (depth : ℕ) (clock : Float) (port job : ℕ) → external t services (suc depth) clock row port job w ≡ refused InvalidModelState → ⊥
 unfolding external
-event-never-six t ok since services w log told row b e f depth clock port job q =
+event-never-six t ok rows services w log told row b e f depth clock port job q =
     ends-refused {Q = Any} {r = InvalidModelState} (subst (λ (k : Kind). Ends NotSix Any (externalAs t services k (external t services depth clock) clock row port job w)) (sym e)
     (ends-bind {Q = Any} _ (ends-map {R = Any} (accept-ends b (row-sized t ok row b e) job (asBatcher (stateAt (w .states) row)) sound) (λ r n. seven-not-six r (n .seven)) (λ _ _. tt)) (λ n _. goes tt))) q refl
   where
@@ -253,24 +239,12 @@ event-never-six t ok since services w log told row b e f depth clock port job q 
     sound = let l = told row b e f in subst (Sound b) (sym (ap asBatcher (l .state))) (lived-sound t ok row b log e (l .lawful))
 
 -- ---- the theorems
--- of every valid simulation: a call is refused with 6 only where a row stands that can answer so
-pub six-elsewhere : (start : Simulation) → Valid start → (cs : List Call) → All CallFits cs → (c : Call) → CallFits c → called c (leftBy start cs) .end ≡ Refused InvalidModelState → SixElsewhere (start .table) (BeginsFresh start)
-six-elsewhere start v cs fs c f e =
-    go (subst (EndsWell Allowed) e (called-keeps Allowed (Reached (start .table) (began start)) (carried (start .table) (began start)) c (leftBy start cs) (happened start cs) f (calls-reach start v cs fs) .1) refl)
-  where
-    Allowed : Refusal → Type 0
-    Allowed = SixIsAnothers (start .table) (began start)
-
-    go : SixElsewhere (start .table) (λ i. T (began start i)) → SixElsewhere (start .table) (BeginsFresh start)
-    go (inl c) = inl c
-    go (inr (i, d, e, n)) = inr (i, d, e, λ h. n (began-so start i h))
-
-module _ (start : Simulation) (row : ℕ) (begins : Begins start row) (cs : List Call) (fs : All CallFits cs) (b : Batcher) (is : kindAt (start .table) row ≡ batcher b) where
+module _ (start : Simulation) (valid : Valid start) (cs : List Call) (fs : All CallFits cs) (row : ℕ) (b : Batcher) (is : kindAt (start .table) row ≡ batcher b) (default : BeginsFresh start row) where
   ok : Sized b
-  ok = row-sized (start .table) (fine (start .table) (begins .valid .table)) row b is
+  ok = row-sized (start .table) (fine (start .table) (valid .table)) row b is
 
   lived : Lived b row (happened start cs) (leftBy start cs .states)
-  lived = calls-reach start (begins .valid) cs fs .told row b is (began-so start row (begins .default))
+  lived = calls-reach start valid cs fs .told row b is (began-so start row default)
 
   -- for every valid simulation, every batcher row of it (inside Coupleds too) that is in its default state, and every list of calls, whatever the other rows hold
   pub demanded : Demand start cs row b
@@ -281,13 +255,13 @@ module _ (start : Simulation) (row : ℕ) (begins : Begins start row) (cs : List
     timely = λ n. then-sound b ok row (happened start cs) (lived .lawful) n .below;
     in-order = then-in-order b ok row (happened start cs) (lived .lawful);
     never-six = λ n job. not-six b ok job (stateThen b row (n .before)) (then-sound b ok row (happened start cs) (lived .lawful) n);
-    six-is-anothers = six-elsewhere start (begins .valid) cs fs;
+    six-is-anothers = six-elsewhere start valid cs fs;
   }
 
   pub beyond : Beyond start cs row b
   beyond = record {
     size = (ok .some-size, ok .most-size);
-    accepts = λ n job. takes b ok job (stateThen b row (n .before)) (then-sound b ok row (happened start cs) (lived .lawful) n);
+    accepts = λ n. takes b ok (stateThen b row (n .before)) (then-sound b ok row (happened start cs) (lived .lawful) n);
     held-leaves = then-leaves b ok row (happened start cs) (lived .lawful);
     release-holds = λ n. full-in-release b (stateThen b row (n .before)) (then-sound b ok row (happened start cs) (lived .lawful) n);
     at-once = λ n. then-sound b ok row (happened start cs) (lived .lawful) n .at-once;
@@ -295,23 +269,18 @@ module _ (start : Simulation) (row : ℕ) (begins : Begins start row) (cs : List
     one-batch-time = waiting b ok row (happened start cs) (lived .lawful);
   }
 
--- as 01 has it: a simulation handed in, of which 20 has nothing to say, with that row in its default state
+-- the same of a simulation that 20 lets pass
 pub demand-3 : (start : Simulation) → T (isValid start) → (cs : List Call) → All CallFits cs → (row : ℕ) (b : Batcher) → kindAt (start .table) row ≡ batcher b → BeginsFresh start row → Demand start cs row b
-demand-3 start v cs fs row b e f = demanded start row (record { valid = valid-of start v; default = f }) cs fs b e
+demand-3 start v = demanded start (valid-of start v)
 
 pub beyond-3 : (start : Simulation) → T (isValid start) → (cs : List Call) → All CallFits cs → (row : ℕ) (b : Batcher) → kindAt (start .table) row ≡ batcher b → BeginsFresh start row → Beyond start cs row b
-beyond-3 start v cs fs row b e f = beyond start row (record { valid = valid-of start v; default = f }) cs fs b e
+beyond-3 start v = beyond start (valid-of start v)
 
--- ---- instances: every batcher of what `post` or `put` answered, up to the next of them; and there 6 is a processor's of capacity 0
-pub record OfAll (start : Simulation) (cs : List Call) : Type 0 where
-  pub demand : (row : ℕ) (b : Batcher) → kindAt (start .table) row ≡ batcher b → Demand start cs row b
-  pub beyond : (row : ℕ) (b : Batcher) → kindAt (start .table) row ≡ batcher b → Beyond start cs row b
-  pub six : (c : Call) → CallFits c → called c (leftBy start cs) .end ≡ Refused InvalidModelState → CapacityNone (start .table)
-
+-- ---- instances: every batcher of what `post` or `put` answered, up to the next of them
 pub of-all : (start : Simulation) → AllFresh start → (cs : List Call) → All CallFits cs → OfAll start cs
 of-all start h cs fs = record {
-  demand = λ row b e. demanded start row (fresh-begins start h row b e) cs fs b e;
-  beyond = λ row b e. beyond start row (fresh-begins start h row b e) cs fs b e;
+  demand = λ row b e. demanded start (h .valid) cs fs row b e (fresh-begins start h row b e);
+  beyond = λ row b e. beyond start (h .valid) cs fs row b e (fresh-begins start h row b e);
   six = λ c f e. capacity-alone start h (six-elsewhere start (h .valid) cs fs c f e);
 }
 

@@ -1,9 +1,10 @@
--- Demand 3, the batcher's answer for good. To be believed: Story, and the statements of the theorems of Demand3 and of the cases.
+-- Demand 3, the batcher's answer for good. To be believed: Story, and the statements of the theorems of Demand3, Six, Arrivals, Comes and of the cases.
 -- definitions: the history of a batcher, and the demand as one record
 pub mod Story
 -- the batcher's own machine over any list of its events; every call's log is such a list for each batcher row
 pub mod Machine
 -- the theorems
+pub mod Six
 pub mod Demand3
 pub mod Arrivals
 pub mod Comes

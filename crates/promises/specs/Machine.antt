@@ -1,7 +1,6 @@
 -- The batcher's own machine: what any lawful list of its events keeps and says. Then the lift: what a simulation's log says of each batcher row, inside Coupleds too, is such a list. Assumes nothing.
 use Prim.Native.Nat.{ℕ, zero, suc, _+_, _-_, _*_, _/_, _%_, _≤_, _<_}
 use mathlib.Core.Path.{_≡_, refl, sym, ap, _∙_, subst}
-use mathlib.Core.Logic.{inl, inr}
 use mathlib.Core.Bool.{Bool, true, false, not}
 use mathlib.Core.List.{List, [], _∷_, _++_, map, append-assoc, append-nil}
 use native.Mathlib.Omega.{arith}
@@ -14,7 +13,7 @@ use lib.Ieee.{Float, binary64, sub, le}
 use Rattle.times.specs.Time.{instant, never, isTime, isTimer}
 use Rattle.times.specs.Laws as law
 use Rattle.rules.specs.declared.Refusal.{Refusal}
-use Rattle.rules.specs.declared.Refusal.the-variants.{InvalidModelState, NoQueueRoom}
+use Rattle.rules.specs.declared.Refusal.the-variants.{NoQueueRoom}
 use Rattle.rules.specs.declared.BatcherPhase.{BatcherPhase}
 use Rattle.rules.specs.declared.BatcherPhase.the-variants as batching
 use Rattle.rules.specs.declared.Batcher.{Batcher}
@@ -28,9 +27,8 @@ use Rattle.rules.specs.Step.{Out, outAt, Happening, came, went, waited, World, 
 use Rattle.rules.specs.Ends.{All, nil, _&_, Ends, stops, goes, ends-if, ends-bind, ends-map}
 use Rattle.rules.specs.Depth.{Fine}
 use Rattle.rules.specs.Least.{ownTimer}
-use Rattle.rules.specs.Kept.{Other}
 use Rattle.rules.specs.Worlds.{Closed, NotBatcher, after-at}
-use Rattle.promises.specs.Story.{Event, Accepted, Released, Waited, wasKept, contents, eventOf, history, acceptedIn, releasesIn, joined, doneOr, afterEvent, stateAfter, stateThen, LawfulEvent, Lawful, HoldsJob, SixElsewhere, advancesUntil, Within}
+use Rattle.promises.specs.Story.{Event, Accepted, Released, Waited, wasKept, contents, eventOf, history, acceptedIn, releasesIn, joined, doneOr, afterEvent, stateAfter, stateThen, LawfulEvent, Lawful, HoldsJob, advancesUntil, Within}
 
 -- ---- what intake says of a batcher's row
 pub record Sized (b : Batcher) : Type 0 where
@@ -363,12 +361,12 @@ another-row row i xs n = if-not (eqb i row) xs [] (λ t. n (sym (eqb→eq i row 
 pub this-row : (row : ℕ) (xs : List Event) → (if eqb row row then xs else []) ≡ xs
 this-row row xs = if-so (eqb row row) xs [] (eqb-refl row)
 
-in-range : (states : List State) (i : ℕ) (s : BatcherState) → stateAt states i ≡ ofBatcher s → i < length states
+pub in-range : (states : List State) (i : ℕ) (s : BatcherState) → stateAt states i ≡ ofBatcher s → i < length states
 in-range [] i s e = absurd (let z : _≡_ {A = ℕ} 0 1 = cc in omega arith)
 in-range (x ∷ states) zero s e = omega arith
 in-range (x ∷ states) (suc i) s e = let l = in-range states i s e in omega arith
 
-contents-back : (port : ℕ) (jobs : List ℕ) → contents (map (outAt port) jobs) ≡ jobs
+pub contents-back : (port : ℕ) (jobs : List ℕ) → contents (map (outAt port) jobs) ≡ jobs
 contents-back port [] = refl
 contents-back port (x ∷ jobs) = ap (λ (z : List ℕ). x ∷ z) (contents-back port jobs)
 
@@ -378,16 +376,7 @@ same-state x y e = cc
 same-row : (x y : Batcher) → batcher x ≡ batcher y → x ≡ y
 same-row x y e = cc
 
--- ---- the refusals that a step may give: 6 only from another row
-abbrev pub SixIsAnothers : Table → (ℕ → Bool) → Refusal → Type 0
-SixIsAnothers t began r = r ≡ InvalidModelState → SixElsewhere t (λ i. T (began i))
-
-pub other-not-six : (t : Table) (began : ℕ → Bool) (r : Refusal) → Other r → SixIsAnothers t began r
-other-not-six t began r o e = absurd (subst Other e o)
-
-room-not-six : (t : Table) (began : ℕ → Bool) (s : BatcherState) (r : Refusal) → NoRoom s r → SixIsAnothers t began r
-room-not-six t began s r h e = absurd (let f = h .seven in let z : _≡_ {A = ℕ} 0 1 = cc in omega arith)
-
+-- ---- of refusals nothing is said here
 abbrev pub Any : {A : Type 0} → A → Type 0
 Any a = Unit {0}
 
@@ -466,24 +455,24 @@ module _ (t : Table) (ok : Fine t) where
     went-else clock i out row d = another-row row i (Released (contents out) ∷ []) d
 
     takes-in : (clock : Float) (i port content : ℕ) (b : Batcher) (s : BatcherState) (w : World) → kindAt t i ≡ batcher b → stateAt (w .states) i ≡ ofBatcher s → ToldIn w
-        → Ends (SixIsAnothers t began) (λ n. ToldIn (noted (came clock i port content Kept) (becomes i (ofBatcher n) w))) (batcherExternal b content s)
+        → Ends Any (λ n. ToldIn (noted (came clock i port content Kept) (becomes i (ofBatcher n) w))) (batcherExternal b content s)
     takes-in clock i port content b s w e q told = go (began i) refl
       where
-        known : T (began i) → Ends (SixIsAnothers t began) (λ n. ToldIn (noted (came clock i port content Kept) (becomes i (ofBatcher n) w))) (batcherExternal b content s)
+        known : T (began i) → Ends Any (λ n. ToldIn (noted (came clock i port content Kept) (becomes i (ofBatcher n) w))) (batcherExternal b content s)
         known since =
             let l = told i b e since in
             let sound : Sound b s = subst (Sound b) (same-state (stateThen b i (L ++ w .log)) s (sym (l .state) ∙ q)) (lived-sound i b (L ++ w .log) e (l .lawful)) in
-            ends-map (ends-known (accept-ends b (row-sized i b e) content s sound)) (room-not-six t began s)
+            ends-map (ends-known (accept-ends b (row-sized i b e) content s sound)) (λ r _. tt)
             (λ n k. let took : afterEvent b (Accepted content) s ≡ n = ap (doneOr s) k in
             subst (λ (z : BatcherState). ToldIn (noted (came clock i port content Kept) (becomes i (ofBatcher z) w))) took
             (at-batcher i b s w (came clock i port content Kept) (Accepted content) e q told (came-else clock i port content) (this-row i (Accepted content ∷ []))
             (k ∙ ap done (sym took))))
 
-        go : (x : Bool) → began i ≡ x → Ends (SixIsAnothers t began) (λ n. ToldIn (noted (came clock i port content Kept) (becomes i (ofBatcher n) w))) (batcherExternal b content s)
+        go : (x : Bool) → began i ≡ x → Ends Any (λ n. ToldIn (noted (came clock i port content Kept) (becomes i (ofBatcher n) w))) (batcherExternal b content s)
         go true x = known (subst T (sym x) tt)
         go false x =
             let n : (T (began i) → ⊥) = λ h. subst T x h in
-            ends-map (any-ends (batcherExternal b content s)) (λ r _ _. inr (i, b, e, n)) (λ s₁ _. at-another i (ofBatcher s₁) w (came clock i port content Kept) n told (came-else clock i port content))
+            ends-map (any-ends (batcherExternal b content s)) (λ r _. tt) (λ s₁ _. at-another i (ofBatcher s₁) w (came clock i port content Kept) n told (came-else clock i port content))
 
     gives-out : (clock : Float) (i : ℕ) (b : Batcher) (s : BatcherState) (w : World) → kindAt t i ≡ batcher b → stateAt (w .states) i ≡ ofBatcher s → ToldIn w
         → ToldIn (noted (went clock i (map (outAt (b .output)) (batcherInternal b s .1))) (becomes i (ofBatcher (batcherInternal b s .0)) w))
@@ -498,10 +487,10 @@ module _ (t : Table) (ok : Fine t) where
             (contents-back (b .output) (batcherInternal b s .1))
         go false x = at-another i (ofBatcher (batcherInternal b s .0)) w (went clock i out) (λ h. subst T x h) told (went-else clock i out)
 
-    pub told-closed : Closed t (SixIsAnothers t began) ToldIn
+    pub told-closed : Closed t Any ToldIn
     told-closed = record {
-      other = other-not-six t began;
-      six = λ i p e c q. inl (i, p, e, c);
+      other = λ r o. tt;
+      six = λ i p e c. tt;
       put-other = λ i s place w n told row b e since.
           let l = told row b e since in
           record { lawful = l .lawful; state = getD-set-other (w .states) i row s (ofCoupled []) (apart t i row b n e) ∙ l .state };

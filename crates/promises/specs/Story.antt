@@ -17,7 +17,7 @@ use Rattle.rules.specs.declared.Message.{Message}
 use Rattle.rules.specs.Sizes.{mostJobs, largestBatch}
 use Rattle.rules.specs.Base.{Outcome, refused, done, if_then_else_, those}
 use Rattle.rules.specs.Table.{Table, processor, batcher, idAt, kindAt}
-use Rattle.rules.specs.Simulation.{BatcherState, ofBatcher, Simulation, freshBatcher, stateAt}
+use Rattle.rules.specs.Simulation.{BatcherState, State, ofBatcher, Simulation, freshBatcher, stateAt, asBatcher}
 use Rattle.rules.specs.Models.{Fate, Started, Kept, Dropped, Marked, Asked, Passed, batcherExternal, batcherInternal}
 use Rattle.rules.specs.Step.{Out, Happening, came, went, waited}
 use Rattle.rules.specs.Calls.{Refused, Call, called, calls}
@@ -84,6 +84,10 @@ cameTo row [] = []
 cameTo row (came clock i port content fate ∷ log) = (if eqb i row then content ∷ [] else []) ++ cameTo row log
 cameTo row (went clock i out ∷ log) = cameTo row log
 cameTo row (waited advance ∷ log) = cameTo row log
+
+-- what the row holds
+abbrev pub heldBy : List State → ℕ → List ℕ
+heldBy states row = asBatcher (stateAt states row) .jobs
 
 -- what a step brings to a parentless row: the contents of the active messages with its id, in list order
 abbrev pub sentTo : Table → ℕ → List Message → List ℕ
@@ -168,9 +172,15 @@ BeginsFresh start row = stateAt (start .states) row ≡ ofBatcher freshBatcher
 abbrev pub CapacityNone : Table → Type 0
 CapacityNone t = (i : ℕ) × (p : Processor) × (kindAt t i ≡ processor p) × (p .«queue_capacity» ≡ 0)
 
--- who else can answer a job with 6: such a processor, or a batcher that did not begin as it should (one that was handed in, in Release with h + 1 < m)
-abbrev pub SixElsewhere : Table → (ℕ → Type 0) → Type 0
-SixElsewhere t Begins = CapacityNone t ⊎ ((i : ℕ) × (b : Batcher) × (kindAt t i ≡ batcher b) × (Begins i → ⊥))
+-- 01's other 6, "at a batcher in Release with h + 1 < m": a batcher that was handed in so. No event leads into that state.
+abbrev pub HandedInShort : Simulation → Type 0
+HandedInShort start =
+    (i : ℕ) × (b : Batcher) × (s : BatcherState) × (kindAt (start .table) i ≡ batcher b) × (stateAt (start .states) i ≡ ofBatcher s) × (s .phase ≡ batching.Release)
+    × (length (s .jobs) + 1 < b .«max_batch_size»)
+
+-- who can answer a job with 6
+abbrev pub SixElsewhere : Simulation → Type 0
+SixElsewhere start = CapacityNone (start .table) ⊎ HandedInShort start
 
 -- all that happened in the calls cs on the simulation `start`, each handed the simulation that the one before left, and the simulation that they leave. What a refused step did is undone and not in the log: "refused steps don't count".
 abbrev pub happened : Simulation → List Call → List Happening
@@ -193,8 +203,8 @@ pub record Demand (start : Simulation) (cs : List Call) (row : ℕ) (b : Batcher
   pub in-order : (n : Moment (happened start cs)) → released row (n .before) ++ stateThen b row (n .before) .jobs ≡ accepted row (n .before)
   -- "InvalidModelState never comes from it": at no moment, whatever job comes
   pub never-six : (n : Moment (happened start cs)) (job : ℕ) → batcherExternal b job (stateThen b row (n .before)) ≡ refused InvalidModelState → ⊥
-  -- and the next call is refused with 6 only where the table has a processor of capacity 0, or another batcher that did not begin in its default state
-  pub six-is-anothers : (c : Call) → CallFits c → called c (leftBy start cs) .end ≡ Refused InvalidModelState → SixElsewhere (start .table) (BeginsFresh start)
+  -- and the next call is refused with 6 only where the table has a processor of capacity 0, or another batcher that was handed in, in Release with h + 1 < m
+  pub six-is-anothers : (c : Call) → CallFits c → called c (leftBy start cs) .end ≡ Refused InvalidModelState → SixElsewhere start
 
 -- ---- beyond the demand: why nothing old waits for something new, and that nothing above is empty
 -- the advances of the timers up to the next internal event after `passed` of them, or all if it does not come
@@ -210,12 +220,9 @@ abbrev pub Within : Float → List Float → Type 0
 Within time [] = Unit {0}
 Within time (advance ∷ more) = T (le advance time) × Within (sub binary64 time advance) more
 
--- a batcher's rule for a job that comes, and what is asked of it: with room for one more it accepts any job, behind all that it holds
-abbrev pub Rule : Type 0
-Rule = Batcher → ℕ → BatcherState → Outcome BatcherState
-
-abbrev pub AcceptsWithRoom : Rule → Batcher → BatcherState → Type 0
-AcceptsWithRoom rule b s = (job : ℕ) → length (s .jobs) + 1 ≤ mostJobs → (rule b job s ≡ done (doneOr s (rule b job s))) × (doneOr s (rule b job s) .jobs ≡ s .jobs ++ job ∷ [])
+-- asked of a rule for a job that comes: with room for one more it accepts any job, behind all that it holds
+abbrev pub AcceptsWithRoom : (Batcher → ℕ → BatcherState → Outcome BatcherState) → Batcher → BatcherState → Type 0
+AcceptsWithRoom rule b s = (job : ℕ) → length (s .jobs) + 1 ≤ mostJobs → (next : BatcherState) × (rule b job s ≡ done next) × (next .jobs ≡ s .jobs ++ job ∷ [])
 
 pub record Beyond (start : Simulation) (cs : List Call) (row : ℕ) (b : Batcher) : Type 0 where
   -- "a batcher of maximum size m, 1 to 2^62"
@@ -234,3 +241,9 @@ pub record Beyond (start : Simulation) (cs : List Call) (row : ℕ) (b : Batcher
       → T (le (afterEvent b (Accepted (a .job)) (stateThen b row (a .before)) .timer) (stateThen b row (a .before) .timer))
   -- from its acceptance to its leaving a job waits one batch time at most, however many are ahead and whatever arrives later
   pub one-batch-time : (a : Acceptance row (happened start cs)) → Within (b .«max_batch_time») (advancesUntil (ahead a / b .«max_batch_size») (history row (a .later)))
+
+-- ---- what `post` and `put` leave: every model is in its default state, so all of this holds of every batcher; and 6 is then a processor's of capacity 0
+pub record OfAll (start : Simulation) (cs : List Call) : Type 0 where
+  pub demand : (row : ℕ) (b : Batcher) → kindAt (start .table) row ≡ batcher b → Demand start cs row b
+  pub beyond : (row : ℕ) (b : Batcher) → kindAt (start .table) row ≡ batcher b → Beyond start cs row b
+  pub six : (c : Call) → CallFits c → called c (leftBy start cs) .end ≡ Refused InvalidModelState → CapacityNone (start .table)

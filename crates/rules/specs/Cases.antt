@@ -8,18 +8,18 @@ use Rattle.times.specs.Time.{instant, never, isTime, isTimer, leastOf}
 use Rattle.rules.specs.declared.Refusal.the-variants.{InvalidModelState, Idle}
 use Rattle.rules.specs.declared.Metric.the-variants.{Minimum}
 use Rattle.rules.specs.declared.Message.{Message}
-use Rattle.rules.specs.Base.{Outcome, done, _>>=_, each}
-use Rattle.rules.specs.Table.{coupled, externalInput, internalCoupling}
-use Rattle.rules.specs.Intake.{Posted, intake, passesIntake}
-use Rattle.rules.specs.Simulation.{State, ofCoupled, Marks}
+use Rattle.rules.specs.Base.{Outcome, done, _>>=_}
+use Rattle.rules.specs.Table.{coupled, Row, Connector, Coupling, externalInput, internalCoupling, Table}
+use Rattle.rules.specs.Intake.{intake, passesIntake}
+use Rattle.rules.specs.Simulation.{State, ofCoupled, Marks, Simulation}
 use Rattle.rules.specs.Models.{service, processorExternal, processorInternal, batcherExternal, batcherInternal, stopwatchExternal, stopwatchInternal}
 use Rattle.rules.specs.Step.{timer, external, internal, stepOn}
 use Rattle.rules.specs.Valid.{isValid}
 use Rattle.rules.specs.Calls.{post, injectInput, End, Done, Reached, Refused, Ran, steps, stepN, step, stepsUntil, stepUntil}
-use Rattle.rules.specs.Examples.{four, five, six, ten, posted, row, within, aBatcher, aProcessor, aStopwatch, link, active, passive, batch, release, noBatch, watch, parkedAt, message, job, inject, start, listing}
+use Rattle.rules.specs.Examples.{four, five, six, ten, posted, row, within, aBatcher, aProcessor, aStopwatch, link, active, passive, batch, release, noBatch, watch, parkedAt, message, job, start, listing}
 use Rattle.rules.specs.Ends.{All, nil, _&_}
 
--- ---- a case: a table is posted, messages are injected, so many steps are made, and all of this is then seen
+-- ---- a case: a table is posted, messages are injected, so many steps are made, and all of this is then seen, with the table as it was
 pub record Seen : Type 0 where
   pub end : End
   pub steps : ℕ
@@ -30,37 +30,43 @@ pub record Seen : Type 0 where
   pub active : List Message
 
 pub record Case : Type 0 where
-  pub table : Posted
+  pub table : Table
   pub messages : List Message
   pub services : List Float
   pub count : ℕ
   pub then : Seen
 
-abbrev pub seen : Ran → Seen
-seen r = record { end = r .end; steps = r .steps; rows = r .rows; states = r .sim .states; clock = r .sim .clock; place = r .sim .place; active = r .sim .active }
+abbrev pub seen : Ran → Table × Seen
+seen r = (
+  r .sim .table,
+  record { end = r .end; steps = r .steps; rows = r .rows; states = r .sim .states; clock = r .sim .clock; place = r .sim .place; active = r .sim .active },
+)
 
--- `post` and each injection must be accepted: their refusal would be the outcome
-unfoldable pub outcome : Case → Outcome Seen
-outcome c = post (c .table) >>= λ posted. each injectInput (c .messages) posted >>= λ sim. done (seen (stepN (c .services) 256 (c .count) sim))
+-- `post` and each injection must be accepted: a refusal of theirs would be the outcome
+unfoldable pub outcome : Case → Outcome (Table × Seen)
+outcome c = start (posted (c .table .rows) (c .table .connectors) (c .table .couplings)) (c .messages) >>= λ sim. done (seen (stepN (c .services) 256 (c .count) sim))
 
 abbrev pub Holds : Case → Type 0
-Holds c = outcome c ≡ done (c .then)
+Holds c = _≡_ {A = Outcome (Table × Seen)} (outcome c) (done (c .table, c .then))
 
 -- ---- tables, messages and service times. Outputs go on to an id that nobody has.
-abbrev pub oneBatcher : Posted
-oneBatcher = posted (row 1 (aBatcher 2 ten) ∷ []) (link 1 2 9 1 ∷ []) []
+abbrev tableOf : List Row → List Connector → List Coupling → Table
+tableOf rows connectors couplings = record { rows = rows; connectors = connectors; couplings = couplings }
 
-abbrev pub oneProcessor : ℕ → Posted
-oneProcessor capacity = posted (row 1 (aProcessor capacity) ∷ []) (link 1 2 9 1 ∷ []) []
+abbrev pub oneBatcher : Table
+oneBatcher = tableOf (row 1 (aBatcher 2 ten) ∷ []) (link 1 2 9 1 ∷ []) []
+
+abbrev pub oneProcessor : ℕ → Table
+oneProcessor capacity = tableOf (row 1 (aProcessor capacity) ∷ []) (link 1 2 9 1 ∷ []) []
 
 -- a Coupled with a batcher (m = 1) that feeds an idle processor
-abbrev pub chain : Posted
+abbrev pub chain : Table
 chain =
-    posted (row 1 coupled ∷ within 1 2 (aBatcher 1 ten) ∷ within 1 3 (aProcessor 8) ∷ []) []
+    tableOf (row 1 coupled ∷ within 1 2 (aBatcher 1 ten) ∷ within 1 3 (aProcessor 8) ∷ []) []
     (externalInput 1 1 2 1 ∷ internalCoupling 1 2 2 3 1 ∷ [])
 
-abbrev pub oneStopwatch : Posted
-oneStopwatch = posted (row 1 (aStopwatch Minimum) ∷ []) (link 1 4 9 1 ∷ []) []
+abbrev pub oneStopwatch : Table
+oneStopwatch = tableOf (row 1 (aStopwatch Minimum) ∷ []) (link 1 4 9 1 ∷ []) []
 
 abbrev pub threeJobs : List Message
 threeJobs = job 1 1 11 ∷ job 1 1 12 ∷ job 1 1 13 ∷ []
@@ -157,13 +163,7 @@ c6-held = record {
 }
 
 abbrev pub c6 : Case
-c6 = record {
-  table = oneProcessor 1;
-  messages = job 1 1 11 ∷ job 1 1 12 ∷ [];
-  services = fourFiveSix;
-  count = 1;
-  then = record { end = Done; steps = 1; rows = []; states = active (11 ∷ []) four ∷ []; clock = instant; place = 1; active = [] };
-}
+c6 = record { table = oneProcessor 1; messages = job 1 1 11 ∷ job 1 1 12 ∷ []; services = fourFiveSix; count = 1; then = c6-held .then }
 
 -- C8 processor releases its only job: timer 0; the next event makes it infinite.
 abbrev pub c8 : Case
@@ -187,7 +187,7 @@ c8-next = record {
 -- C9 empty table, no message: 12, clock 0. `post` accepts it.
 abbrev pub c9 : Case
 c9 = record {
-  table = posted [] [] [];
+  table = tableOf [] [] [];
   messages = [];
   services = [];
   count = 1;
@@ -232,37 +232,46 @@ c12 = record {
 
 -- "Proved, as one table under a single statement"
 pub cases : All Holds (c1 ∷ c3 ∷ c3-next ∷ c5 ∷ c6-held ∷ c6 ∷ c8 ∷ c8-next ∷ c9 ∷ c11 ∷ c12 ∷ [])
-unfolding isTime isTimer leastOf add sub lt le eq fits ofBits toBits service processorExternal processorInternal batcherExternal batcherInternal stopwatchExternal stopwatchInternal timer external internal stepOn intake passesIntake isValid post injectInput steps stepN outcome
+unfolding isTime isTimer leastOf add sub lt le eq fits ofBits toBits service processorExternal processorInternal batcherExternal batcherInternal stopwatchExternal stopwatchInternal timer external internal stepOn intake passesIntake isValid post injectInput steps stepN start outcome
 cases = refl & refl & refl & refl & refl & refl & refl & refl & refl & refl & refl & nil
 
 -- ---- "Run and compared whole: id 1 a batcher (m = 2, batch time 10), id 2 a processor (capacity 8), ports in 1 and out 2, one connector 1:2 to 2:1, service times 4, 5, 6, jobs 11, 12, 13 injected at 1:1"
-abbrev pub line : Posted
-line = posted (row 1 (aBatcher 2 ten) ∷ row 2 (aProcessor 8) ∷ []) (link 1 2 2 1 ∷ []) []
+abbrev pub line : Table
+line = tableOf (row 1 (aBatcher 2 ten) ∷ row 2 (aProcessor 8) ∷ []) (link 1 2 2 1 ∷ []) []
 
-unfoldable pub runUntil : Float → ℕ → Seen
-runUntil until allowance = seen (stepUntil fourFiveSix until 256 allowance (start line threeJobs))
+abbrev pub started : Outcome Simulation
+started = start (posted (line .rows) (line .connectors) (line .couplings)) threeJobs
+
+unfoldable pub tenSteps : Outcome (List (ℕ × ℕ) × End)
+tenSteps = started >>= λ sim. done (listing fourFiveSix 10 sim)
+
+unfoldable pub untilTen : Outcome (Table × Seen)
+untilTen = started >>= λ sim. done (seen (stepUntil fourFiveSix ten 256 20 sim))
 
 -- a message on the connector
 abbrev pub sent : Float → ℕ → Message
 sent time content = message 1 2 2 1 time content
 
 pub record Bench : Type 0 where
-  pub ten-steps : listing fourFiveSix 10 (start line threeJobs) ≡ (
+  pub ten-steps : _≡_ {A = Outcome (List (ℕ × ℕ) × End)} tenSteps (done (
     (0, 2) ∷ (0, 0) ∷ (0x4010_0000_0000_0000, 0) ∷ (0x4010_0000_0000_0000, 0) ∷ (0x4022_0000_0000_0000, 0) ∷ (0x4022_0000_0000_0000, 0)
         ∷ (0x4024_0000_0000_0000, 1) ∷ (0x4024_0000_0000_0000, 0) ∷ (0x4030_0000_0000_0000, 0) ∷ (0x4030_0000_0000_0000, 0) ∷ [],
     Refused Idle,
-  )
+  ))
   -- "From the same start `step_until` 10 completes 7 steps and collects 2 rows."
-  pub until-ten : runUntil ten 20 ≡ record {
-    end = Reached;
-    steps = 7;
-    rows = sent instant 11 ∷ sent instant 12 ∷ [];
-    states = noBatch ∷ passive [] never ∷ [];
-    clock = ten;
-    place = 2;
-    active = sent ten 13 ∷ [];
-  }
+  pub until-ten : _≡_ {A = Outcome (Table × Seen)} untilTen (done (
+    line,
+    record {
+      end = Reached;
+      steps = 7;
+      rows = sent instant 11 ∷ sent instant 12 ∷ [];
+      states = noBatch ∷ passive [] never ∷ [];
+      clock = ten;
+      place = 2;
+      active = sent ten 13 ∷ [];
+    },
+  ))
 
 pub bench : Bench
-unfolding isTime isTimer leastOf add sub lt le eq fits ofBits toBits service processorExternal processorInternal batcherExternal batcherInternal stopwatchExternal stopwatchInternal timer external internal stepOn intake passesIntake isValid post injectInput steps stepN step stepsUntil stepUntil inject start listing runUntil
+unfolding isTime isTimer leastOf add sub lt le eq fits ofBits toBits service processorExternal processorInternal batcherExternal batcherInternal stopwatchExternal stopwatchInternal timer external internal stepOn intake passesIntake isValid post injectInput steps stepN step stepsUntil stepUntil start listing tenSteps untilTen
 bench = record { ten-steps = refl; until-ten = refl }

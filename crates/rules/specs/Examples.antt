@@ -11,11 +11,11 @@ use Rattle.rules.specs.declared.StopwatchPhase.the-variants as watching
 use Rattle.rules.specs.declared.Metric.{Metric}
 use Rattle.rules.specs.declared.Message.{Message}
 use Rattle.rules.specs.Names.{number}
-use Rattle.rules.specs.Base.{Outcome, refused, done, from}
+use Rattle.rules.specs.Base.{Outcome, refused, done, _>>=_, each, from}
 use Rattle.rules.specs.Table.{Kind, processor, batcher, stopwatch, Row, Connector, Coupling}
 use Rattle.rules.specs.Intake.{Posted}
 use Rattle.rules.specs.Simulation.{State, ofProcessor, ofBatcher, ofStopwatch, Marks, Parked, Simulation}
-use Rattle.rules.specs.Calls.{post, handedBack, injectInput, End, Done, Reached, Spent, Refused, Ran, step, stepN}
+use Rattle.rules.specs.Calls.{post, injectInput, End, Done, Reached, Spent, Refused, step}
 
 -- ---- times by their bits
 abbrev pub at : ℕ → Float
@@ -100,31 +100,10 @@ job id port content = message 0 0 id port instant content
 abbrev pub jobs : ℕ → ℕ → List Message
 jobs id n = map (λ k. job id 1 k) (from 1 n)
 
-abbrev pub contents : List Message → List ℕ
-contents ms = map (λ (m : Message). m .content) ms
-
--- ---- runs: a refused call leaves the simulation of the empty table
-unfoldable pub inject : List Message → Simulation → Simulation
-inject [] sim = sim
-inject (m ∷ ms) sim = inject ms (handedBack (injectInput m sim))
-
+-- ---- runs
 -- a table posted, with messages injected
-unfoldable pub start : Posted → List Message → Simulation
-start p ms = inject ms (handedBack (post p))
-
--- what is seen of a run: how it ended, its steps, the contents collected, the states and the clock's bits
-pub record Seen : Type 0 where
-  pub end : End
-  pub steps : ℕ
-  pub rows : List ℕ
-  pub states : List State
-  pub clock : ℕ
-
-abbrev pub see : Ran → Seen
-see r = record { end = r .end; steps = r .steps; rows = contents (r .rows); states = r .sim .states; clock = toBits binary64 (r .sim .clock) }
-
-unfoldable pub run : Posted → List Message → List Float → ℕ → Seen
-run p ms services n = see (stepN services 256 n (start p ms))
+unfoldable pub start : Posted → List Message → Outcome Simulation
+start p ms = post p >>= each injectInput ms
 
 -- the bits of the clock and the number of messages after each of n steps, and then how the next step ends
 unfoldable pub listing : List Float → ℕ → Simulation → List (ℕ × ℕ) × End
