@@ -5,7 +5,7 @@ ghost use Prim.Native.Nat.{_≤_};
 ghost use lib.ListN.{length};
 
 // The time that has these bits.
-pub fn time_of(bits: u64) -> f64 {
+pub(crate) fn time_of(bits: u64) -> f64 {
     match times::time_of_bits(bits) {
         TimeOf::Time(time) => time,
         TimeOf::Bad => times::never(),
@@ -269,7 +269,7 @@ fn get_status(asked: &[u64], said: &[u64], state: &[u64], answer: &mut [u64]) ->
 }
 
 // Makes a call; `said` is what the oracle answered.
-pub fn make(
+pub(crate) fn make(
     asked: &[u64],
     said: &[u64],
     state: &mut [u64],
