@@ -37,6 +37,15 @@ fn left(state: &[u64], told: &mut [u64], changes: &[u64]) -> Seen {
     judging::state(state, told)
 }
 
+// The state after a call whose answer is the oracle's.
+fn after(asked: &[u64], said: &[u64], state: &[u64], told: &mut [u64], count: usize) -> Seen {
+    let used = begin(asked, said, told, count);
+    if said.len() < used {
+        return Seen::Wrong;
+    }
+    left(state, told, &said[used..])
+}
+
 // Makes a call, and compares its answer and the whole state after it with the oracle's.
 fn make(
     asked: &[u64],
@@ -48,14 +57,10 @@ fn make(
     let mut answer = [judging::BEFORE; 4096];
     let count = calls::make(asked, said, state, services, &mut answer);
     let seen = judging::answer(&answer, count, said);
-    if !judging::is_same(seen) {
-        return seen;
+    if judging::is_same(seen) {
+        return after(asked, said, state, told, count);
     }
-    let used = begin(asked, said, told, count);
-    if said.len() < used {
-        return Seen::Wrong;
-    }
-    left(state, told, &said[used..])
+    seen
 }
 
 // The first call of a text: its line, and the line of its answer. Where the next begins; 0 where it differs, and then it was said.
@@ -76,10 +81,9 @@ fn one(
     let asking = line.count;
     let saying = answer.count;
     let seen = make(&asked[0..asking], &said[0..saying], state, told, services);
-    if judging::is_same(seen) {
+    if say::is_same(case, call, seen) {
         return answer.next;
     }
-    say::differs(case, call, seen);
     0
 }
 

@@ -38,6 +38,15 @@ pub(crate) fn differs(case: u64, call: u64, seen: Seen) {
     text(b"\n");
 }
 
+// Whether a call is the same; one that is not is said.
+pub(crate) fn is_same(case: u64, call: u64, seen: Seen) -> bool {
+    if judging::is_same(seen) {
+        return true;
+    }
+    differs(case, call, seen);
+    false
+}
+
 pub(crate) fn cut_short() {
     text(b"the list is cut short\n");
 }
