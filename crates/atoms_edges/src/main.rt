@@ -1,21 +1,61 @@
-// Runs the edge cases of `atoms`, `marks` and `words`. A line names a case and says what came out; document 01's answers stand in `stdout`.
-mod bad_watch;
+// Runs the edge cases of `atoms`, `marks` and `words`: `stdin` has a line for each, whose first lines say how they are written. What comes out is printed behind the case's name; document 01's answers stand in `stdout`.
 mod batchers;
+mod lines;
 mod processors;
 mod queue;
 mod say;
 mod services;
-mod stopwatches;
+mod sheet;
 mod values;
 mod watch;
 
+// A case, by the number of what is called.
+fn call(what: u64, asked: &[u64], words: &mut [u64; 512]) {
+    match what {
+        1 => services::run(asked),
+        2..=5 => processors::run(what, asked),
+        6..=9 => batchers::run(what, asked),
+        10..=18 => watch::run(what, asked, words),
+        _ => queue::run(what, asked),
+    }
+}
+
+// A line: words that are laid down, or a case and its name.
+fn one(line: &[u8], words: &mut [u64; 512]) {
+    let mut numbers = [0u64; 256];
+    let read = lines::numbers(line, &mut numbers);
+    let count = read.count;
+    let what = numbers[0];
+    if count == 0 {
+        return;
+    }
+    if what == 0 {
+        sheet::lay(words, &numbers[0..count]);
+        return;
+    }
+    say::heading(line, read.end);
+    call(what, &numbers[0..count], words);
+    say::text(say::END);
+}
+
+fn all(text: &[u8]) {
+    let mut words = [0u64; 512];
+    let mut at = 0;
+    while at < text.len() {
+        let end = bench_words::line_end(text, at);
+        if end < at {
+            return;
+        }
+        if text.len() <= end {
+            return;
+        }
+        one(&text[at..end], &mut words);
+        at = end + 1;
+    }
+}
+
 fn main() {
-    services::run();
-    processors::run();
-    batchers::run();
-    stopwatches::run_marks();
-    stopwatches::run_asked();
-    bad_watch::run_states();
-    bad_watch::run_calls();
-    queue::run();
+    let mut text = io::large_buffer();
+    let length = io::read_full(0, &mut text);
+    all(&text[..length]);
 }

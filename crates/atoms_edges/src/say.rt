@@ -3,91 +3,165 @@ use atoms::Gone;
 use atoms::Taken;
 use rules::Refusal;
 
-pub fn text(bytes: &[u8]) {
-    io::write_all(1, bytes);
+// How wide a text is with the dots that fill it up.
+const WIDE: usize = 20;
+
+// The texts that have a name here, by their places. The refusals' names stand at their numbers.
+pub(crate) const OUT: usize = 0;
+
+pub(crate) const STARTED: usize = 14;
+
+pub(crate) const KEPT: usize = 15;
+
+pub(crate) const DROPPED: usize = 16;
+
+pub(crate) const MARKED: usize = 17;
+
+pub(crate) const ASKED: usize = 18;
+
+pub(crate) const ANSWER: usize = 19;
+
+pub(crate) const BLANK: usize = 21;
+
+pub(crate) const PASSIVE: usize = 22;
+
+pub(crate) const ACTIVE: usize = 23;
+
+pub(crate) const BATCHING: usize = 24;
+
+pub(crate) const RELEASE: usize = 25;
+
+pub(crate) const FETCHING: usize = 26;
+
+pub(crate) const TIMER: usize = 27;
+
+pub(crate) const AND: usize = 28;
+
+pub(crate) const HELD: usize = 29;
+
+pub(crate) const PLACE: usize = 30;
+
+pub(crate) const TIME: usize = 31;
+
+pub(crate) const THEN: usize = 32;
+
+pub(crate) const JOB: usize = 33;
+
+pub(crate) const NOTHING: usize = 34;
+
+pub(crate) const NONE: usize = 35;
+
+pub(crate) const CUT_SHORT: usize = 36;
+
+pub(crate) const CHANGED: usize = 37;
+
+pub(crate) const ROW: usize = 38;
+
+pub(crate) const END: usize = 39;
+
+// The place of the first dot.
+fn text_end(texts: &[u8], from: usize) -> usize {
+    let mut at = from;
+    while at < texts.len() {
+        if texts[at] == b'.' {
+            return at;
+        }
+        at += 1;
+    }
+    at
 }
 
-pub fn number(n: u64) {
-    io::print_decimal(1, n);
-}
-
-// The bits of an f64, as 16 hex digits.
-pub fn bits(x: f64) {
-    io::print_hex(1, times::bits_of(x), 16);
-}
-
-pub fn hex(word: u64) {
-    io::print_hex(1, word, 16);
-}
-
-// The start of a line: what is tried, and the name of the case.
-pub fn heading(model: &[u8], name: &[u8]) {
-    text(model);
-    text(b": ");
-    text(name);
-    text(b": ");
-}
-
-pub fn end() {
-    text(b"\n");
-}
-
-fn name_of(refusal: Refusal) {
-    match refusal {
-        Refusal::TooLarge => text(b"TooLarge"),
-        Refusal::BadRow => text(b"BadRow"),
-        Refusal::BadCoupling => text(b"BadCoupling"),
-        Refusal::ModelNotFound => text(b"ModelNotFound"),
-        Refusal::InvalidMessage => text(b"InvalidMessage"),
-        Refusal::InvalidModelState => text(b"InvalidModelState"),
-        Refusal::NoQueueRoom => text(b"NoQueueRoom"),
-        Refusal::NoMessageRoom => text(b"NoMessageRoom"),
-        Refusal::NoServiceTime => text(b"NoServiceTime"),
-        Refusal::BadTime => text(b"BadTime"),
-        Refusal::ClockOverflow => text(b"ClockOverflow"),
-        Refusal::Idle => text(b"Idle"),
-        Refusal::NoOutRoom => text(b"NoOutRoom"),
-        Refusal::BadState => text(b"BadState"),
+fn part(texts: &[u8], from: usize) {
+    let end = text_end(texts, from);
+    if end <= texts.len() {
+        if from <= end {
+            io::write_all(1, &texts[from..end]);
+        }
     }
 }
 
+// One literal for all: each has a price in the proof.
+pub(crate) fn text(which: usize) {
+    if which < 40 {
+        part(
+            b" out................ TooLarge........... BadRow............. BadCoupling........ ModelNotFound...... InvalidMessage..... InvalidModelState.. NoQueueRoom........ NoMessageRoom...... NoServiceTime...... BadTime............ ClockOverflow...... Idle............... NoOutRoom..........started.............kept................dropped.............marked..............asked...............: .................. BadState........... ...................; Passive...........; Active............; Batching..........; Release...........; JobFetch.........., timer ............, .................. held..............., place ............: time ............., then place .......: job ..............: nothing...........: none..............: cut short........., words changed: ...: row ..............\n...................",
+            which * WIDE,
+        );
+    }
+}
+
+pub(crate) fn number(n: u64) {
+    io::print_decimal(1, n);
+}
+
+pub(crate) fn hex(word: u64) {
+    io::print_hex(1, word, 16);
+}
+
+// The bits of an f64, behind a text.
+pub(crate) fn bits(which: usize, x: f64) {
+    text(which);
+    hex(times::bits_of(x));
+}
+
+// A number, behind a text.
+pub(crate) fn named(which: usize, n: u64) {
+    text(which);
+    number(n);
+}
+
+// A case's name, which stands behind `# ` in its line.
+pub(crate) fn heading(line: &[u8], end: usize) {
+    if line.len() < 2 {
+        return;
+    }
+    if line.len() - 2 < end {
+        return;
+    }
+    io::write_all(1, &line[end + 2..]);
+}
+
 // A refusal's number and name.
-pub fn refusal(refusal: Refusal) {
-    number(rules::number(refusal) as u64);
-    text(b" ");
-    name_of(refusal);
+pub(crate) fn refusal(refusal: Refusal) {
+    let n = rules::number(refusal) as u64;
+    named(ANSWER, n);
+    text(n as usize);
+}
+
+fn answer(which: usize) {
+    text(ANSWER);
+    text(which);
 }
 
 // What became of what came.
-pub fn taken(answer: Taken) {
-    match answer {
-        Taken::Started => text(b"started"),
-        Taken::Kept => text(b"kept"),
-        Taken::Dropped => text(b"dropped"),
-        Taken::Marked => text(b"marked"),
-        Taken::Asked => text(b"asked"),
+pub(crate) fn taken(taken: Taken) {
+    match taken {
+        Taken::Started => answer(STARTED),
+        Taken::Kept => answer(KEPT),
+        Taken::Dropped => answer(DROPPED),
+        Taken::Marked => answer(MARKED),
+        Taken::Asked => answer(ASKED),
         Taken::Refused(why) => refusal(why),
     }
 }
 
+fn out(count: u64) {
+    named(ANSWER, count);
+    text(OUT);
+}
+
 // How many jobs go out.
-pub fn gone(answer: Gone) {
+pub(crate) fn gone(answer: Gone) {
     match answer {
-        Gone::Out(count) => {
-            number(count);
-            text(b" out");
-        }
+        Gone::Out(count) => out(count),
         Gone::Refused(why) => refusal(why),
     }
 }
 
 // A state: its phase, its timer and how many are held.
-pub fn state(phase: &[u8], timer: f64, held: u64) {
-    text(b"; ");
+pub(crate) fn state(phase: usize, timer: f64, held: u64) {
     text(phase);
-    text(b", timer ");
-    bits(timer);
-    text(b", ");
-    number(held);
-    text(b" held");
+    bits(TIMER, timer);
+    named(AND, held);
+    text(HELD);
 }

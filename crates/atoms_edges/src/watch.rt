@@ -1,5 +1,7 @@
-// What the stopwatch's cases share: its row, its states, its words, and the lines.
+// The stopwatch, on words from a place of the sheet to another.
 use crate::say;
+use crate::sheet;
+use crate::values;
 use atoms::Named;
 use atoms::StopwatchGone;
 use atoms::StopwatchState;
@@ -8,185 +10,150 @@ use marks::MeanOf;
 use rules::Metric;
 use rules::Stopwatch;
 use rules::StopwatchPhase;
+use words::word_at;
 
-// Port 1 starts, 2 stops, 3 asks.
-pub fn row(metric: Metric) -> Stopwatch {
-    ports(1, 2, 3, metric)
+fn metric_of(word: u64) -> Metric {
+    match word {
+        0 => Metric::Minimum,
+        _ => Metric::Maximum,
+    }
 }
 
-pub fn ports(start: u16, stop: u16, ask: u16, metric: Metric) -> Stopwatch {
+fn row_of(asked: &[u64]) -> Stopwatch {
+    let metric = metric_of(word_at(asked, 9));
     Stopwatch {
-        start,
-        stop,
-        ask,
+        start: values::short(word_at(asked, 6)),
+        stop: values::short(word_at(asked, 7)),
+        ask: values::short(word_at(asked, 8)),
         output: 4,
         metric,
     }
 }
 
-pub fn passive(timer: f64, held: u64) -> StopwatchState {
+fn phase_of(word: u64) -> StopwatchPhase {
+    match word {
+        0 => StopwatchPhase::Passive,
+        _ => StopwatchPhase::JobFetch,
+    }
+}
+
+fn state_of(asked: &[u64]) -> StopwatchState {
+    let phase = phase_of(word_at(asked, 3));
     StopwatchState {
-        phase: StopwatchPhase::Passive,
-        timer,
-        held,
+        phase,
+        timer: values::float(word_at(asked, 4)),
+        held: word_at(asked, 5),
     }
-}
-
-pub fn fetching(held: u64) -> StopwatchState {
-    StopwatchState {
-        phase: StopwatchPhase::JobFetch,
-        timer: 0.0,
-        held,
-    }
-}
-
-// Puts a job into the words. A mark of `never` is not made.
-pub fn put(words: &mut [u64; 192], k: usize, name: u64, start: f64, stop: f64) {
-    if k < 64 {
-        words[k] = name;
-        words[64 + k] = times::bits_of(start);
-        words[128 + k] = times::bits_of(stop);
-    }
-}
-
-// 64 jobs, 100 to 163, each from 1 to 2.
-pub fn fill(words: &mut [u64; 192]) {
-    let mut k = 0;
-    let mut name = 100;
-    while k < 64 {
-        put(words, k, name, 1.0, 2.0);
-        k += 1;
-        name += 1;
-    }
-}
-
-// How many words differ.
-fn changes(before: &[u64], after: &[u64]) -> u64 {
-    let mut count = 0;
-    let mut k = 0;
-    while k < before.len() {
-        if before[k] != words::word_at(after, k) {
-            count += 1;
-        }
-        k += 1;
-    }
-    count
-}
-
-// The end of a line: how many words the call changed.
-pub fn say_changes(before: &[u64], after: &[u64]) {
-    say::text(b", words changed: ");
-    say::number(changes(before, after));
-    say::end();
 }
 
 fn say_state(state: StopwatchState) {
     let phase = state.phase;
     match phase {
-        StopwatchPhase::Passive => say::state(b"Passive", state.timer, state.held),
-        StopwatchPhase::JobFetch => say::state(b"JobFetch", state.timer, state.held),
+        StopwatchPhase::Passive => say::state(say::PASSIVE, state.timer, state.held),
+        StopwatchPhase::JobFetch => say::state(say::FETCHING, state.timer, state.held),
     }
 }
 
-pub fn say_taken(taken: StopwatchTaken) -> StopwatchState {
+fn say_taken(taken: StopwatchTaken) {
     let next = taken.next;
     let answer = taken.answer;
     say::taken(answer);
     say_state(next);
-    next
 }
 
-fn say_named(answer: Named) {
+fn say_gone(gone: StopwatchGone) {
+    let next = gone.next;
+    let answer = gone.answer;
     match answer {
-        Named::Job(name) => {
-            say::text(b"job ");
-            say::number(name);
-        }
-        Named::Nothing => say::text(b"nothing"),
+        Named::Job(name) => say::named(say::JOB, name),
+        Named::Nothing => say::text(say::NOTHING),
         Named::Refused(why) => say::refusal(why),
+    }
+    say_state(next);
+}
+
+fn external(what: u64, asked: &[u64], words: &mut [u64]) {
+    let state = state_of(asked);
+    let row = row_of(asked);
+    let clock = values::float(word_at(asked, 10));
+    let port = values::short(word_at(asked, 11));
+    let job = values::small(word_at(asked, 12));
+    if what == 12 {
+        say_taken(state.external_rule(row, clock, port, job, words));
+    } else {
+        say_taken(state.external(row, clock, port, job, words));
     }
 }
 
-pub fn say_gone(gone: StopwatchGone) {
-    let next = gone.next;
-    let answer = gone.answer;
-    say_named(answer);
-    say_state(next);
-    say::end();
+fn internal(what: u64, asked: &[u64], words: &[u64]) {
+    let state = state_of(asked);
+    let row = row_of(asked);
+    if what == 13 {
+        say_gone(state.internal_rule(row, words));
+    } else {
+        say_gone(state.internal(row, words));
+    }
 }
 
-// A message comes, with this row.
-pub fn send_by(
-    name: &[u8],
-    row: Stopwatch,
-    state: StopwatchState,
-    clock: f64,
-    port: u16,
-    job: u32,
-    words: &mut [u64; 192],
-) -> StopwatchState {
-    say::heading(b"stopwatch", name);
-    let before = *words;
-    let next = say_taken(state.external(row, clock, port, job, words));
-    say_changes(&before, words);
-    next
-}
-
-// A message comes.
-pub fn send(
-    name: &[u8],
-    state: StopwatchState,
-    clock: f64,
-    port: u16,
-    job: u32,
-    words: &mut [u64; 192],
-) -> StopwatchState {
-    send_by(name, row(Metric::Minimum), state, clock, port, job, words)
+fn mean(asked: &[u64], words: &[u64]) {
+    match marks::mean(words, word_at(asked, 3)) {
+        MeanOf::Mean(mean) => say::bits(say::ANSWER, mean),
+        MeanOf::Nothing => say::text(say::NONE),
+        MeanOf::CutShort => say::text(say::CUT_SHORT),
+    }
 }
 
 // The three words of a job.
-pub fn show(name: &[u8], words: &[u64; 192], k: usize) {
+fn job(asked: &[u64], words: &[u64]) {
+    let k = word_at(asked, 3) as usize;
     if k < 64 {
-        say::heading(b"stopwatch's words", name);
-        say::number(words[k]);
-        say::text(b" ");
-        say::hex(words[64 + k]);
-        say::text(b" ");
-        say::hex(words[128 + k]);
-        say::end();
+        say::named(say::ANSWER, word_at(words, k));
+        say::text(say::BLANK);
+        say::hex(word_at(words, 64 + k));
+        say::text(say::BLANK);
+        say::hex(word_at(words, 128 + k));
     }
 }
 
-// The timer has run out.
-pub fn due(name: &[u8], row: Stopwatch, state: StopwatchState, words: &[u64; 192]) {
-    due_in(name, row, state, words);
+fn say_changes(before: &[u64], after: &[u64]) {
+    say::named(say::CHANGED, sheet::changes(before, after));
 }
 
-// The same, in words of any length.
-pub fn due_in(name: &[u8], row: Stopwatch, state: StopwatchState, words: &[u64]) {
-    say::heading(b"stopwatch due", name);
-    say_gone(state.internal(row, words));
+// How many words are not 0.
+fn set(words: &[u64]) {
+    let none = [0u64; 0];
+    say_changes(words, &none);
 }
 
-pub fn mean(name: &[u8], held: u64, words: &[u64; 192]) {
-    mean_in(name, held, words);
-}
-
-pub fn mean_in(name: &[u8], held: u64, words: &[u64]) {
-    say::heading(b"stopwatch's mean", name);
-    match marks::mean(words, held) {
-        MeanOf::Mean(mean) => say::bits(mean),
-        MeanOf::Nothing => say::text(b"none"),
-        MeanOf::CutShort => say::text(b"cut short"),
+fn on_words(what: u64, asked: &[u64], words: &mut [u64]) {
+    match what {
+        11 | 13 => internal(what, asked, words),
+        15 => set(words),
+        16 => mean(asked, words),
+        17 => job(asked, words),
+        18 => say::named(say::ANSWER, word_at(words, word_at(asked, 3) as usize)),
+        _ => external(what, asked, words),
     }
-    say::end();
 }
 
-// The least and the greatest duration, and the mean of all.
-pub fn asked(name: &[u8], held: u64, words: &[u64; 192]) {
-    say::heading(b"stopwatch's least", name);
-    say_gone(fetching(held).internal(row(Metric::Minimum), words));
-    say::heading(b"stopwatch's greatest", name);
-    say_gone(fetching(held).internal(row(Metric::Maximum), words));
-    mean(name, held, words);
+// The words that are lent.
+fn lend(what: u64, asked: &[u64], words: &mut [u64]) {
+    let from = word_at(asked, 1) as usize;
+    let end = word_at(asked, 2) as usize;
+    if words.len() < end {
+        return;
+    }
+    if end < from {
+        return;
+    }
+    on_words(what, asked, &mut words[from..end]);
+}
+
+// After 14, as 10 is, it says how many words were changed.
+pub(crate) fn run(what: u64, asked: &[u64], words: &mut [u64; 512]) {
+    let before = *words;
+    lend(what, asked, words);
+    if what == 14 {
+        say_changes(&before, words);
+    }
 }

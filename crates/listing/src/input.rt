@@ -2,7 +2,7 @@
 use crate::say;
 
 // How many bytes there are; as many as the buffer has where there is no such file or it is too long, and then it was said.
-pub fn read(text: &mut [u8]) -> usize {
+pub(crate) fn read(text: &mut [u8]) -> usize {
     let fd = open();
     if fd < 0 {
         return text.len();

@@ -24,7 +24,7 @@ fn used(rows: usize, width: usize, page: &[u64]) -> usize
 }
 
 // The file is read whole before anything is run.
-pub fn file(text: &[u8]) {
+pub(crate) fn file(text: &[u8]) {
     let mut models = [0u64; 1280];
     let mut connectors = [0u64; 2048];
     let mut couplings = [0u64; 3072];

@@ -3,19 +3,19 @@ use bench_file::Expected;
 use rules::Refusal;
 use table::Verdict;
 
-pub fn text(bytes: &[u8]) {
+pub(crate) fn text(bytes: &[u8]) {
     io::write_all(1, bytes);
 }
 
-pub fn number(n: u64) {
+pub(crate) fn number(n: u64) {
     io::print_decimal(1, n);
 }
 
-pub fn bits(word: u64) {
+pub(crate) fn bits(word: u64) {
     io::print_hex(1, word, 16);
 }
 
-pub fn wrong(bytes: &[u8]) {
+pub(crate) fn wrong(bytes: &[u8]) {
     io::write_all(2, bytes);
 }
 
@@ -28,7 +28,7 @@ fn wrong_text(asked: [u8; 32]) {
 }
 
 // A line that is not what the format asks for. Nothing is run.
-pub fn wrong_line(line: u64, expected: Expected) {
+pub(crate) fn wrong_line(line: u64, expected: Expected) {
     wrong(b"line ");
     io::print_decimal(2, line);
     wrong(b": expected ");
@@ -56,7 +56,7 @@ fn name(refusal: Refusal) {
 }
 
 // How a run ended by a refusal: its number and name.
-pub fn refused(refusal: Refusal) {
+pub(crate) fn refused(refusal: Refusal) {
     text(b"refused ");
     number(rules::number(refusal) as u64);
     name(refusal);
@@ -75,7 +75,7 @@ fn at(kind: &[u8], row: usize) {
 }
 
 // Where a table is bad.
-pub fn verdict(verdict: Verdict) {
+pub(crate) fn verdict(verdict: Verdict) {
     match verdict {
         Verdict::TooLarge => text(b"at most 64 models, 256 connectors, 256 couplings\n"),
         Verdict::BadRow(row) => at(b"model", row),
@@ -86,7 +86,7 @@ pub fn verdict(verdict: Verdict) {
 }
 
 // A message, as a row of six words.
-pub fn message(row: &[u64]) {
+pub(crate) fn message(row: &[u64]) {
     if row.len() < 6 {
         return;
     }

@@ -6,7 +6,7 @@ use simulation::Clock;
 use simulation::Listing;
 
 // Whether the file goes on, and with which step.
-pub enum Then {
+pub(crate) enum Then {
     Goes(u64),
     Stops,
 }
@@ -130,7 +130,13 @@ fn is_idle(end: End) -> bool {
 }
 
 // step_n: so many steps.
-pub fn count(state: &mut [u64], services: &[f64], most: u64, first: u64, show: bool) -> Then {
+pub(crate) fn count(
+    state: &mut [u64],
+    services: &[f64],
+    most: u64,
+    first: u64,
+    show: bool,
+) -> Then {
     let mut number = first;
     let mut left = most;
     while 0 < left {
@@ -146,7 +152,7 @@ pub fn count(state: &mut [u64], services: &[f64], most: u64, first: u64, show: b
 }
 
 // step_until. A limit that is no time is refused before any step, also where the allowance is 0.
-pub fn until(
+pub(crate) fn until(
     state: &mut [u64],
     services: &[f64],
     time: f64,
@@ -188,7 +194,7 @@ fn towards(
 }
 
 // Until there is nothing left to do, in at most so many steps.
-pub fn until_idle(
+pub(crate) fn until_idle(
     state: &mut [u64],
     services: &[f64],
     allowance: u64,

@@ -5,7 +5,7 @@ ghost use Prim.Native.Nat.{_≤_};
 ghost use lib.ListN.{length};
 
 // The time that has these bits.
-pub fn time_of(bits: u64) -> f64 {
+pub(crate) fn time_of(bits: u64) -> f64 {
     match times::time_of_bits(bits) {
         TimeOf::Time(time) => time,
         TimeOf::Bad => times::never(),
@@ -268,8 +268,22 @@ fn get_status(asked: &[u64], said: &[u64], state: &[u64], answer: &mut [u64]) ->
     head(answer, [0, what, least, most], 4)
 }
 
+// A question, which leaves the state as it is.
+fn ask(call: u64, asked: &[u64], said: &[u64], state: &[u64], answer: &mut [u64]) -> usize {
+    match call {
+        10 => get_status(asked, said, state, answer),
+        11 => get_messages(asked, state, answer),
+        _ => get_global_time(state, answer),
+    }
+}
+
+fn alter(call: u64, asked: &[u64], state: &mut [u64], answer: &mut [u64]) -> usize {
+    let number = change(call, asked, state);
+    head(answer, [number as u64, 0, 0, 0], 1)
+}
+
 // Makes a call; `said` is what the oracle answered.
-pub fn make(
+pub(crate) fn make(
     asked: &[u64],
     said: &[u64],
     state: &mut [u64],
@@ -279,12 +293,7 @@ pub fn make(
     let call = words::word_at(asked, 0);
     match call {
         4..=6 => run(call, asked, state, services, answer),
-        10 => get_status(asked, said, state, answer),
-        11 => get_messages(asked, state, answer),
-        12 => get_global_time(state, answer),
-        _ => {
-            let number = change(call, asked, state);
-            head(answer, [number as u64, 0, 0, 0], 1)
-        }
+        10..=12 => ask(call, asked, said, state, answer),
+        _ => alter(call, asked, state, answer),
     }
 }

@@ -1,16 +1,15 @@
 // One case: a simulation from its post on.
-use crate::answers;
-use crate::answers::Seen;
 use crate::calls;
 use crate::lines;
 use crate::say;
 use crate::sheets;
+use judging::Seen;
 ghost use Prim.Native.Nat.{_≤_};
 ghost use lib.ListN.{length};
 
-pub struct Replayed {
-    pub calls: u64,
-    pub differs: bool,
+pub(crate) struct Replayed {
+    pub(crate) calls: u64,
+    pub(crate) differs: bool,
 }
 
 // One more.
@@ -30,6 +29,23 @@ fn begin(asked: &[u64], said: &[u64], told: &mut [u64], count: usize) -> usize {
     2
 }
 
+// The state, after the changes that the oracle says.
+fn left(state: &[u64], told: &mut [u64], changes: &[u64]) -> Seen {
+    if !sheets::change(told, changes) {
+        return Seen::Wrong;
+    }
+    judging::state(state, told)
+}
+
+// The state after a call whose answer is the oracle's.
+fn after(asked: &[u64], said: &[u64], state: &[u64], told: &mut [u64], count: usize) -> Seen {
+    let used = begin(asked, said, told, count);
+    if said.len() < used {
+        return Seen::Wrong;
+    }
+    left(state, told, &said[used..])
+}
+
 // Makes a call, and compares its answer and the whole state after it with the oracle's.
 fn make(
     asked: &[u64],
@@ -38,17 +54,13 @@ fn make(
     told: &mut [u64],
     services: &[f64],
 ) -> Seen {
-    let mut answer = [sheets::BEFORE; 4096];
+    let mut answer = [judging::BEFORE; 4096];
     let count = calls::make(asked, said, state, services, &mut answer);
-    let seen = answers::answer(&answer, count, said);
-    if !answers::is_same(seen) {
-        return seen;
+    let seen = judging::answer(&answer, count, said);
+    if judging::is_same(seen) {
+        return after(asked, said, state, told, count);
     }
-    let used = begin(asked, said, told, count);
-    if said.len() < used {
-        return Seen::Wrong;
-    }
-    answers::state(state, told, &said[used..])
+    seen
 }
 
 // The first call of a text: its line, and the line of its answer. Where the next begins; 0 where it differs, and then it was said.
@@ -69,10 +81,9 @@ fn one(
     let asking = line.count;
     let saying = answer.count;
     let seen = make(&asked[0..asking], &said[0..saying], state, told, services);
-    if answers::is_same(seen) {
+    if say::is_same(case, call, seen) {
         return answer.next;
     }
-    say::differs(case, call, seen);
     0
 }
 
@@ -121,8 +132,8 @@ fn wrong(case: u64) -> Replayed {
 // The calls, with so many words lent for the state and these service times.
 fn lend(case: u64, words: u64, bits: &[u64], text: &[u8]) -> Replayed {
     let mut times = [0f64; 512];
-    let mut state = [sheets::BEFORE; 17286];
-    let mut told = [sheets::BEFORE; 17286];
+    let mut state = [judging::BEFORE; 17286];
+    let mut told = [judging::BEFORE; 17286];
     if 17286 < words {
         return wrong(case);
     }
@@ -141,7 +152,7 @@ fn lend(case: u64, words: u64, bits: &[u64], text: &[u8]) -> Replayed {
 }
 
 // A case: its first line has its number, how many words are lent for the state, and the service times; then come the calls.
-pub fn replay(text: &[u8]) -> Replayed {
+pub(crate) fn replay(text: &[u8]) -> Replayed {
     let mut head = [0u64; 1024];
     let line = lines::read(text, 0, &mut head);
     let count = line.count;

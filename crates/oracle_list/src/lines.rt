@@ -4,9 +4,9 @@ ghost use Prim.Native.Nat.{_≤_};
 ghost use lib.ListN.{length};
 
 // How many numbers a line has, 0 where it is none of the list's, and where the next line begins.
-pub struct Line {
-    pub count: usize,
-    pub next: usize,
+pub(crate) struct Line {
+    pub(crate) count: usize,
+    pub(crate) next: usize,
 }
 
 fn number(word: &[u8]) -> Number {
@@ -43,7 +43,7 @@ fn numbers(line: &[u8], words: &mut [u64]) -> usize
 }
 
 // The line that begins there.
-pub fn read(text: &[u8], from: usize, words: &mut [u64]) -> Line
+pub(crate) fn read(text: &[u8], from: usize, words: &mut [u64]) -> Line
     ensures { λ r. ⌜ (r .count ≤ length (now (words .exit))) × (r .next ≤ length (now (text .entry))) ⌝ }
 {
     let end = bench_words::line_end(text, from);

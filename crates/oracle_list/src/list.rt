@@ -4,11 +4,11 @@ use crate::case::Replayed;
 use crate::say;
 
 // How many cases and calls were replayed, how many cases differ, and where the last of them ends in its piece.
-pub struct Total {
-    pub cases: u64,
-    pub calls: u64,
-    pub differ: u64,
-    pub used: usize,
+pub(crate) struct Total {
+    pub(crate) cases: u64,
+    pub(crate) calls: u64,
+    pub(crate) differ: u64,
+    pub(crate) used: usize,
 }
 
 fn sum(a: u64, b: u64) -> u64 {
@@ -103,7 +103,7 @@ fn cases(text: &[u8], before: Total) -> Total {
 }
 
 // All cases. A list that ends within a case is cut short.
-pub fn replay(text: &mut [u8]) -> Total {
+pub(crate) fn replay(text: &mut [u8]) -> Total {
     let mut total = Total {
         cases: 0,
         calls: 0,

@@ -1,6 +1,6 @@
 // What the replay writes to standard output.
-use crate::answers::Seen;
 use crate::list::Total;
+use judging::Seen;
 
 fn text(bytes: &[u8]) {
     io::write_all(1, bytes);
@@ -29,7 +29,7 @@ fn place(seen: Seen) {
 }
 
 // A call that differs; 0 stands for the case's first line.
-pub fn differs(case: u64, call: u64, seen: Seen) {
+pub(crate) fn differs(case: u64, call: u64, seen: Seen) {
     text(b"case ");
     number(case);
     text(b", call ");
@@ -38,12 +38,21 @@ pub fn differs(case: u64, call: u64, seen: Seen) {
     text(b"\n");
 }
 
-pub fn cut_short() {
+// Whether a call is the same; one that is not is said.
+pub(crate) fn is_same(case: u64, call: u64, seen: Seen) -> bool {
+    if judging::is_same(seen) {
+        return true;
+    }
+    differs(case, call, seen);
+    false
+}
+
+pub(crate) fn cut_short() {
     text(b"the list is cut short\n");
 }
 
 // The last line.
-pub fn total(total: Total) {
+pub(crate) fn total(total: Total) {
     number(total.cases);
     text(b" cases, ");
     number(total.calls);

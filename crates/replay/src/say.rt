@@ -3,15 +3,15 @@ use engine::End;
 use engine::Report;
 use memory::Answer;
 
-pub fn text(bytes: &[u8]) {
+pub(crate) fn text(bytes: &[u8]) {
     io::write_all(1, bytes);
 }
 
-pub fn number(n: u64) {
+pub(crate) fn number(n: u64) {
     io::print_decimal(1, n);
 }
 
-pub fn answer(answer: Answer) {
+pub(crate) fn answer(answer: Answer) {
     match answer {
         Answer::Done => text(b"done\n"),
         Answer::Refused(refusal) => {
@@ -22,7 +22,7 @@ pub fn answer(answer: Answer) {
     }
 }
 
-pub fn report(report: Report) {
+pub(crate) fn report(report: Report) {
     number(report.steps);
     text(b" steps, ");
     number(report.written as u64);
@@ -47,7 +47,7 @@ fn word(place: usize, value: u64) {
 }
 
 // Every word that is not 0, with its place.
-pub fn words(name: &[u8], words: &[u64]) {
+pub(crate) fn words(name: &[u8], words: &[u64]) {
     text(name);
     let mut place = 0;
     while place < words.len() {
