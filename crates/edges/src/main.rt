@@ -38,6 +38,10 @@ fn one(line: &[u8], words: &mut [u64; 4096]) {
         sheet::lay(words, &numbers[0..count]);
         return;
     }
+    if what == 26 {
+        sheet::fill(words, &numbers[0..count]);
+        return;
+    }
     say::heading(line, read.end);
     call(what, &numbers[0..count], words);
     say::text(say::END);

@@ -13,6 +13,20 @@ pub(crate) fn lay(words: &mut [u64; 4096], asked: &[u64]) {
     }
 }
 
+// Lays one word down so many times, from a place on, so many places apart.
+pub(crate) fn fill(words: &mut [u64; 4096], asked: &[u64]) {
+    let apart = word_at(asked, 2);
+    let count = word_at(asked, 3);
+    let word = word_at(asked, 4);
+    let mut at = word_at(asked, 1);
+    let mut k: u64 = 0;
+    while k < count {
+        words::push(words, at as usize, word);
+        at = std::num::wrapping_add_u64(at, apart);
+        k += 1;
+    }
+}
+
 // How many words differ.
 pub(crate) fn changes(before: &[u64], after: &[u64]) -> u64 {
     let mut count = 0;
