@@ -24,7 +24,7 @@ use Rattle.rules.specs.Valid.{stateFits}
 use Rattle.rules.specs.Ends.{All, Ends, stops, goes, ends-if, ends-bind, ends-map}
 use Rattle.rules.specs.Depth.{Fine, fine}
 use Rattle.rules.specs.Kept.{Other}
-use Rattle.rules.specs.Worlds.{Closed, NotBatcher, after-at}
+use Rattle.rules.specs.Worlds.{set-all, Closed, NotBatcher, after-at}
 use Rattle.rules.specs.Runs.{Valid, step-ends, EndsWell, CallFits, Carried, called-keeps, calls-keeps}
 use Rattle.promises.specs.Story.{CapacityNone, HandedInShort, SixElsewhere, happened, leftBy}
 use Rattle.promises.specs.Machine.{Sized, Shape, release-sound, any-ends, row-sized}
@@ -49,13 +49,6 @@ Allowed t since r = r ≡ InvalidModelState → SixFrom t since
 
 abbrev Ready : Table → (ℕ → Bool) → List State → Type 0
 Ready t since states = (i : ℕ) → T (since i) → T (readyAs (kindAt t i) (stateAt states i))
-
-set-all : (P : ℕ → State → Type 0) (l : List State) (i : ℕ) (s : State) → ((j : ℕ) → P j (stateAt l j)) → P i s → (j : ℕ) → P j (stateAt (set l i s) j)
-set-all P [] i s h k j = h j
-set-all P (x ∷ xs) zero s h k zero = k
-set-all P (x ∷ xs) zero s h k (suc j) = h (suc j)
-set-all P (x ∷ xs) (suc i) s h k zero = h zero
-set-all P (x ∷ xs) (suc i) s h k (suc j) = set-all (λ n. P (suc n)) xs i s (λ n. h (suc n)) k j
 
 others-ready : (k : Kind) (s : State) → NotBatcher k → T (readyAs k s)
 others-ready (processor p) s n = tt

@@ -35,15 +35,16 @@ use Rattle.rules.specs.Kept.{Other, Contents, processor-external, proces
 abbrev pub Good : Table → World → Type 0
 Good t w = Fitted t (w .states) × T (isWord (w .place))
 
+-- what is true of each row's state is true after one is set, where it is true of the new one
+pub set-all : (P : ℕ → State → Type 0) (l : List State) (i : ℕ) (s : State) → ((j : ℕ) → P j (stateAt l j)) → P i s → (j : ℕ) → P j (stateAt (set l i s) j)
+set-all P [] i s h k j = h j
+set-all P (x ∷ xs) zero s h k zero = k
+set-all P (x ∷ xs) zero s h k (suc j) = h (suc j)
+set-all P (x ∷ xs) (suc i) s h k zero = h zero
+set-all P (x ∷ xs) (suc i) s h k (suc j) = set-all (λ n. P (suc n)) xs i s (λ n. h (suc n)) k j
+
 pub fitted-set : {t : Table} {states : List State} (i : ℕ) (s : State) → Fitted t states → T (stateFits (kindAt t i) s) → Fitted t (set states i s)
-fitted-set {t} {states} i s g f = record { same = length-set states i s ∙ g .same; fit = go (λ j z. T (stateFits (kindAt t j) z)) states i (g .fit) f }
-  where
-    go : (P : ℕ → State → Type 0) (l : List State) (i : ℕ) → ((j : ℕ) → P j (stateAt l j)) → P i s → (j : ℕ) → P j (stateAt (set l i s) j)
-    go P [] i h k j = h j
-    go P (x ∷ xs) zero h k zero = k
-    go P (x ∷ xs) zero h k (suc j) = h (suc j)
-    go P (x ∷ xs) (suc i) h k zero = h zero
-    go P (x ∷ xs) (suc i) h k (suc j) = go (λ n. P (suc n)) xs i (λ n. h (suc n)) k j
+fitted-set {t} {states} i s g f = record { same = length-set states i s ∙ g .same; fit = set-all (λ j z. T (stateFits (kindAt t j) z)) states i s (g .fit) f }
 
 -- ---- what the single events must keep of K, and of a refusal
 abbrev pub NotBatcher : Kind → Type 0
