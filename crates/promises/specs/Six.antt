@@ -1,5 +1,5 @@
 -- Who answers with 6: in any calls on a valid simulation, a processor of capacity 0, or a batcher that was handed in, in Release with h + 1 < m. No event leads a batcher into that state. Assumes nothing.
-use Prim.Native.Nat.{ℕ, zero, suc, _+_, _-_, _<_}
+use Prim.Native.Nat.{ℕ, _+_, _-_, _<_}
 use mathlib.Core.Path.{_≡_, refl, sym, ap, _∙_, subst}
 use mathlib.Core.Logic.{_⊎_, inl, inr}
 use mathlib.Core.Bool.{Bool, true, false, not}
