@@ -17,7 +17,6 @@ use Rattle.rules.specs.Step.{timer, external, internal, stepOn}
 use Rattle.rules.specs.Valid.{isValid}
 use Rattle.rules.specs.Calls.{post, injectInput, End, Done, Reached, Refused, Ran, steps, stepN, step, stepsUntil, stepUntil}
 use Rattle.rules.specs.Examples.{four, five, six, ten, posted, row, within, aBatcher, aProcessor, aStopwatch, link, active, passive, batch, release, noBatch, watch, parkedAt, message, job, start, listing}
-use Rattle.rules.specs.Ends.{All, nil, _&_}
 
 -- ---- a case: a table is posted, messages are injected, so many steps are made, and all of this is then seen, with the table as it was
 pub record Seen : Type 0 where
@@ -48,6 +47,10 @@ outcome c = start (posted (c .table .rows) (c .table .connectors) (c .table .cou
 
 abbrev pub Holds : Case → Type 0
 Holds c = _≡_ {A = Outcome (Table × Seen)} (outcome c) (done (c .table, c .then))
+
+abbrev pub AllHold : List Case → Type 0
+AllHold [] = Unit {0}
+AllHold (c ∷ cs) = Holds c × AllHold cs
 
 -- ---- tables, messages and service times. Outputs go on to an id that nobody has.
 abbrev tableOf : List Row → List Connector → List Coupling → Table
@@ -231,9 +234,9 @@ c12 = record {
 }
 
 -- "Proved, as one table under a single statement"
-pub cases : All Holds (c1 ∷ c3 ∷ c3-next ∷ c5 ∷ c6-held ∷ c6 ∷ c8 ∷ c8-next ∷ c9 ∷ c11 ∷ c12 ∷ [])
+pub cases : AllHold (c1 ∷ c3 ∷ c3-next ∷ c5 ∷ c6-held ∷ c6 ∷ c8 ∷ c8-next ∷ c9 ∷ c11 ∷ c12 ∷ [])
 unfolding isTime isTimer leastOf add sub lt le eq fits ofBits toBits service processorExternal processorInternal batcherExternal batcherInternal stopwatchExternal stopwatchInternal timer external internal stepOn intake passesIntake isValid post injectInput steps stepN start outcome
-cases = refl & refl & refl & refl & refl & refl & refl & refl & refl & refl & refl & nil
+cases = (refl, (refl, (refl, (refl, (refl, (refl, (refl, (refl, (refl, (refl, (refl, tt)))))))))))
 
 -- ---- "Run and compared whole: id 1 a batcher (m = 2, batch time 10), id 2 a processor (capacity 8), ports in 1 and out 2, one connector 1:2 to 2:1, service times 4, 5, 6, jobs 11, 12, 13 injected at 1:1"
 abbrev pub line : Table
