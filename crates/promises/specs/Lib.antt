@@ -8,5 +8,8 @@ pub mod Six
 pub mod Demand3
 pub mod Arrivals
 pub mod Comes
+pub mod RunOn
+pub mod RunLater
 -- computed runs
 pub mod Cases
+pub mod RunOnCases
