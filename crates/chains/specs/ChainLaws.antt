@@ -25,7 +25,7 @@ use Rattle.rules.specs.Calls.{End, Done, Reached, Spent, Refused, Ran, post, pu
 use Rattle.rules.specs.Ends.{no-some, All, _&_, Ends, stops, goes, ends-if, ends-bind, ends-map}
 use Rattle.rules.specs.Decides.{intake-exactly}
 use Rattle.rules.specs.Runs.{Valid, valid-of, is-valid, step-ends, EndsWell, CallFits, Carried, called-keeps, NotTwenty, any-closed, called-valid}
-use Rattle.lookup.specs.Inside.{tailAt, modelsIn, connectorsIn, couplingsIn, tableIn}
+use Rattle.lookup.specs.Inside.{countIn, tailAt, modelsIn, connectorsIn, couplingsIn, tableIn}
 use Rattle.lookup.specs.InsideLaws.{counts}
 use Rattle.rerunning.specs.Running.{simOf}
 use Rattle.views.specs.World.{endOf}
@@ -45,7 +45,7 @@ use Rattle.promises.specs.Machine.{Any}
 use Rattle.chains.specs.Chain.{after, returned, told, chain, chainTold, afterPost, returnedByPost, afterPut, returnedByPut, BufferHolds, needed, ChainDemand, ChainOfAll}
 
 -- ---- a call keeps the table: an instance of `Runs.Carried`
-same-table : (t : Table) → Carried NotTwenty (λ sim log. Valid sim × (sim .table ≡ t))
+pub same-table : (t : Table) → Carried NotTwenty (λ sim log. Valid sim × (sim .table ≡ t))
 same-table t = record {
   other = any-closed t .other;
   valid = λ sim log h. h .0;
@@ -191,10 +191,8 @@ changing-most sim ok =
     let long = ap (λ (s : Simulation). length (changing s)) (sym (read-back sim [] ok)) ∙ changing-long (sim .table) (changing sim ++ []) h in
     omega arith
 
-module _ (state : List ℕ) (stored : T (isStored state)) (c : Call) (f : CallFits c) where
-  abbrev next : Simulation
-  next = called c (simOf state) .sim
-
+-- a buffer that holds a simulation, with another one of its table in it
+module _ (state : List ℕ) (stored : T (isStored state)) (next : Simulation) (same : next .table ≡ simOf state .table) (ok : T (isValid next)) where
   abbrev words : List ℕ
   words = laidState (modelsIn state) (connectorsIn state) (couplingsIn state) next
 
@@ -202,26 +200,47 @@ module _ (state : List ℕ) (stored : T (isStored state)) (c : Call) (f : CallFi
   words-most =
       let inside = stored-inside state stored in
       let rows = counts state inside .0 in
-      let most = changing-most next (called-valid c (simOf state) f (valid state stored) .sim) in
-      let same = ap endOf (called-table c (simOf state) f (valid state stored)) in
+      let most = changing-most next ok in
+      let table = ap endOf same in
       let end = end-most (tableIn state) in
       let front = length-take-le (tailAt state) state (inside .room) in
       let all = ap length (laid-is state inside next) ∙ length-append (take (tailAt state) state) (changing next) in
       omega arith
 
+  pub kept-long : length (kept state next) ≡ length state
+  kept-long = over-long words state (let w = words-most in let l = stored-long state stored in omega arith)
+
+  pub kept-beyond : (n : ℕ) → needed state ≤ n → drop n (kept state next) ≡ drop n state
+  kept-beyond n l = over-beyond words state n (let w = words-most in omega arith)
+
+  -- the table's sizes stay
+  pub kept-counts : (countIn 0 (kept state next) ≡ countIn 0 state) × (countIn 1 (kept state next) ≡ countIn 1 state) × (countIn 2 (kept state next) ≡ countIn 2 state)
+  kept-counts =
+      let (there, is) = kept-stored state next stored same ok in
+      let t = ap (λ (s : Simulation). s .table) is ∙ same in
+      let (rows, links, inner) = counts (kept state next) (stored-inside (kept state next) there) in
+      let (rows′, links′, inner′) = counts state (stored-inside state stored) in
+      (sym rows ∙ ap (λ (z : Table). length (z .rows)) t ∙ rows′, sym links ∙ ap (λ (z : Table). length (z .connectors)) t ∙ links′, sym inner ∙ ap (λ (z : Table). length (z .couplings)) t ∙ inner′)
+
+  pub kept-needed : needed (kept state next) ≡ needed state
+  kept-needed = λ i. stateWords (kept-counts .0 i) (kept-counts .1 i) (kept-counts .2 i)
+
+module _ (state : List ℕ) (stored : T (isStored state)) (c : Call) (f : CallFits c) where
+  abbrev next : Simulation
+  next = called c (simOf state) .sim
+
+  -- P, of the buffer after the call, from P of the buffer with the call's simulation in it
+  of-kept : (P : List ℕ → Type 0) → (next .table ≡ simOf state .table → T (isValid next) → P (kept state next)) → P (after c state)
+  of-kept P h = subst P (sym (after-kept state stored c)) (h (called-table c (simOf state) f (valid state stored)) (called-valid c (simOf state) f (valid state stored) .sim))
+
   after-long : length (after c state) ≡ length state
-  after-long = ap length (after-kept state stored c) ∙ over-long words state (let w = words-most in let l = stored-long state stored in omega arith)
+  after-long = of-kept (λ ws. length ws ≡ length state) (kept-long state stored next)
 
   after-beyond : (n : ℕ) → needed state ≤ n → drop n (after c state) ≡ drop n state
-  after-beyond n l = ap (drop n) (after-kept state stored c) ∙ over-beyond words state n (let w = words-most in omega arith)
+  after-beyond n l = of-kept (λ ws. drop n ws ≡ drop n state) (λ same ok. kept-beyond state stored next same ok n l)
 
   same-needed : needed (after c state) ≡ needed state
-  same-needed =
-      let (there, is) = after-holds state stored c f in
-      let t = ap (λ (s : Simulation). s .table) is ∙ called-table c (simOf state) f (valid state stored) in
-      let (rows, links, inner) = counts (after c state) (stored-inside (after c state) there) in
-      let (rows′, links′, inner′) = counts state (stored-inside state stored) in
-      λ i. stateWords ((sym rows ∙ ap (λ (z : Table). length (z .rows)) t ∙ rows′) i) ((sym links ∙ ap (λ (z : Table). length (z .connectors)) t ∙ links′) i) ((sym inner ∙ ap (λ (z : Table). length (z .couplings)) t ∙ inner′) i)
+  same-needed = of-kept (λ ws. needed ws ≡ needed state) (kept-needed state stored next)
 
 pub chain-long : (cs : List Call) (state : List ℕ) → T (isStored state) → All CallFits cs → length (chain cs state) ≡ length state
 chain-long [] state stored fs = refl

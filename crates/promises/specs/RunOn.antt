@@ -232,7 +232,7 @@ module _ (services : List Float) where
 
 -- ---- "20 comes first": of a simulation that it lets pass `step_n` is its steps; of others it is the refusal
 module _ (services : List Float) where
-  passes : (room n : ℕ) (sim : Simulation) → T (isValid sim) → stepN services room n sim ≡ steps services room n sim
+  pub passes : (room n : ℕ) (sim : Simulation) → T (isValid sim) → stepN services room n sim ≡ steps services room n sim
   unfolding stepN
   passes room n sim v = go (isValid sim) v
     where
