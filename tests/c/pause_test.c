@@ -389,6 +389,49 @@ static void test_bad_until(void) {
     start_free(&s);
 }
 
+/* ---- what is no second part of the same run */
+/* With what it lacked a refused run goes on: another run, of which nothing is said here but that it does. */
+static void check_goes_on(struct start *s, uint32_t number, const double *times, size_t times_len, size_t rows_len) {
+    struct run r = in_one_go(s, UINT64_MAX);
+    uint64_t *rows = copy_of(r.rows.words, r.rows.len);
+    uint64_t report[3];
+    CHECK_NUMBER(number, r.number);
+    CHECK_NUMBER(JT_OK, jt_step_n(r.state.words, r.state.len, times, times_len, 1, rows, rows_len, report));
+    CHECK_NUMBER(1, report[0]);
+    free(rows);
+    run_free(r);
+    start_free(s);
+}
+
+static void test_another_run(void) {
+    static const double more[2] = {0, 0};
+    struct start s;
+    no_service_left(&s);
+    check_goes_on(&s, JT_NO_SERVICE_TIME, more, 2, 0);
+    no_time(&s);
+    check_goes_on(&s, JT_BAD_TIME, more, 2, 0);
+    no_room_left(&s);
+    check_goes_on(&s, JT_NO_OUT_ROOM, NULL, 0, JT_MESSAGE_WORDS);
+}
+
+/* The service list is lent whole each time. The rest of it alone is another list: the state's place in it skips one. */
+static void test_rest_of_services(void) {
+    struct start s;
+    uint64_t report[3];
+    double clock;
+    bench_start(&s);
+    struct run r = in_one_go(&s, 3);
+    CHECK_NUMBER(JT_OK, jt_step_n(r.state.words, r.state.len, services + 1, 2, 2, r.rows.words, r.rows.len, report));
+    CHECK_NUMBER(JT_OK, jt_get_global_time(r.state.words, r.state.len, &clock));
+    CHECK(clock == 4 + 6);
+    run_free(r);
+    struct run whole = in_one_go(&s, 5);
+    CHECK_NUMBER(JT_OK, jt_get_global_time(whole.state.words, whole.state.len, &clock));
+    CHECK(clock == 4 + 5);
+    run_free(whole);
+    start_free(&s);
+}
+
 /* ---- why the words past the end are not compared */
 /* A pause while a message is active writes it into the state. Delivered, it is no part of the state any more, but its words
  * stand where they stood. The run in one go never wrote them: there the injected message's stand. */
@@ -425,6 +468,8 @@ int main(void) {
     test_after_reached();
     test_steps_after_reached();
     test_bad_until();
+    test_another_run();
+    test_rest_of_services();
     test_past_the_end();
     return tell("pause");
 }
