@@ -5,7 +5,8 @@
  *     pause on COUNT FILE [NEXT]     COUNT steps more of the run in FILE; paused again into NEXT, where that is given
  *
  * `through` and `on` print the rows of all steps so far and how the run stands. Exit status: 0, also where the run itself was
- * refused, which is printed; 1 bad input or a file that cannot be read or written; 2 wrong use. */
+ * refused, which is printed; 1 bad input or a file that cannot be read or written; 2 wrong use. NEXT may be FILE, but then a write
+ * that fails loses the run. */
 #include <errno.h>
 #include <inttypes.h>
 #include <stdio.h>
