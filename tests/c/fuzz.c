@@ -255,7 +255,49 @@ static void check_exact_services(const struct given *g) {
     CHECK(lent_answer.words[0] < kept.answer[0]);
 }
 
+/* A run in two parts, the second lent what the first left of state and rows, and what they answer together. A run that reached
+ * `until` has no second part. After a refusal it is refused at once with the same number, or, where it has no steps, not. */
+static uint32_t invoke_cut(const struct given *g, uint64_t first, uint64_t total[3]) {
+    struct given part = *g;
+    part.kind = g->kind == STEP ? STEP_N : g->kind;
+    part.steps = first;
+    uint32_t number = invoke_run(&part);
+    memcpy(total, lent_answer.words, 3 * sizeof(uint64_t));
+    if (total[2] == JT_END_REACHED)
+        return number;
+    part.steps = g->steps - first;
+    part.rows_len = g->rows_len - (size_t)(JT_MESSAGE_WORDS * total[1]);
+    lent_rows.pointer = lent_rows.words + JT_MESSAGE_WORDS * total[1];
+    uint32_t then = invoke_run(&part);
+    total[0] += lent_answer.words[0];
+    total[1] += lent_answer.words[1];
+    if (number == JT_OK)
+        total[2] = lent_answer.words[2];
+    else
+        CHECK(then == (part.steps == 0 ? JT_OK : number) && lent_answer.words[0] == 0 && lent_answer.words[1] == 0);
+    return number == JT_OK ? then : number;
+}
+
+/* Paused after any of its steps, or by its refusal, a run ends the same. The random numbers are put back after it: a seed makes
+ * the calls that it would make without. */
+static void check_cut(const struct given *g) {
+    uint64_t place = random_place;
+    uint64_t total[3];
+    uint64_t first = below(kept.answer[0] + 2);
+    checking_calls += 2;
+    lend(g);
+    CHECK_NUMBER(kept.number, invoke_cut(g, first < g->steps ? first : g->steps, total));
+    CHECK(same(kept.answer, total, 3));
+    check_inputs(g);
+    check_same_rows(g);
+    CHECK_NUMBER(state_end(kept.state), state_end(lent_state.words));
+    CHECK(same(kept.state, lent_state.words, state_end(kept.state)));
+    random_place = place;
+}
+
 static void compare_run(const struct given *g) {
+    if (g->sound && (g->kind != STEP_UNTIL || is_time(g->time)))
+        check_cut(g);
     if (kept.answer[2] == JT_END_REFUSED && kept.answer[0] > 0)
         check_kept_steps(g);
     if (kept.answer[2] == JT_END_REACHED && one_in(4))

@@ -1,44 +1,13 @@
-/* States: where their parts stand (docs/LAYOUT.md), and states with something changed. */
+/* States with something changed. Where their parts stand is in layout.h. */
 #ifndef FUZZ_STATES_H
 #define FUZZ_STATES_H
 
 #include "fuzz_tables.h"
+#include "layout.h"
 
 enum { MOST_ACTIVE = 256, MOST_HELD = 64, STATE_ROOM = 17286 + 300 };
 
-/* ---- where things stand in a state that holds a simulation */
-static size_t tail_at(const uint64_t *state) {
-    return (size_t)(3 + JT_MODEL_WORDS * state[0] + JT_CONNECTOR_WORDS * state[1] + JT_COUPLING_WORDS * state[2]);
-}
-
-static uint64_t kind_of(const uint64_t *state, size_t i) {
-    return state[3 + JT_MODEL_WORDS * i + 1];
-}
-
-/* Phase, timer, how many it holds, where its own words begin. */
-static size_t head_at(const uint64_t *state, size_t i) {
-    return tail_at(state) + 3 + 4 * i;
-}
-
-static size_t own_words(uint64_t kind) {
-    return kind == STOPWATCH ? 192 : 64;
-}
-
-static size_t messages_at(const uint64_t *state) {
-    size_t at = head_at(state, (size_t)state[0]);
-    for (size_t i = 0; i < state[0]; i++)
-        at += own_words(kind_of(state, i));
-    return at;
-}
-
-static uint64_t active_in(const uint64_t *state) {
-    return state[tail_at(state)];
-}
-
-static size_t state_end(const uint64_t *state) {
-    return messages_at(state) + (size_t)(JT_MESSAGE_WORDS * active_in(state));
-}
-
+/* ---- how long it must be, and its rows */
 static size_t state_needs(const uint64_t *state) {
     return words_needed((size_t)(JT_MODEL_WORDS * state[0]), (size_t)(JT_CONNECTOR_WORDS * state[1]),
                         (size_t)(JT_COUPLING_WORDS * state[2]));
