@@ -22,6 +22,11 @@
  * max_batch_size 1 that feeds itself: the allowance of jt_step_until is the way out. Nothing ends a step halfway.
  * docs/PROMISES.md, "How long a step can take".
  *
+ * Running on. A run may be cut in parts: a steps and then b more, with the same `services` and with `rows` lent from behind the
+ * first part's rows on, are one call with a + b, in state, rows, steps and answer. The answer of the whole is the first part's
+ * where that is a refusal, else the second's: asked for no steps, the second part answers 0. docs/PAUSING.md has this for
+ * jt_step_until too, and a run that is stored in a file and goes on in another process.
+ *
  * Memory. A slice is a pointer and a length in elements, aligned as its type asks. A pointer may be NULL where the length is
  * 0. `report`, `count` and `time` point to memory of the size shown. What a call writes (a state that is not const, `rows`,
  * `report`, `count`, `time`) overlaps nothing else that it is handed; what is only read may be lent twice. One buffer is used

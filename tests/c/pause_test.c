@@ -389,6 +389,96 @@ static void test_bad_until(void) {
     start_free(&s);
 }
 
+/* ---- jt_step_until, paused at an earlier clock */
+/* How many pauses had reached the earlier clock and had messages to fetch, and how many had not reached it. */
+static struct {
+    uint64_t fetched, before;
+} pauses;
+
+/* The messages that a run which has reached its `until` left active, put behind its rows. 0 where they do not fit. */
+static int fetch(struct run *r) {
+    size_t used = (size_t)(JT_MESSAGE_WORDS * r->report[1]);
+    uint64_t count = 0;
+    if (jt_get_messages(r->state.words, r->state.len, r->rows.words + used, r->rows.len - used, &count) != JT_OK)
+        return 0;
+    r->report[1] += count;
+    pauses.fetched += count > 0;
+    return 1;
+}
+
+/* Whether a run until `s->until` can go on until `later`: it has not reached that too, and its messages are fetched. */
+static int made_ready(struct run *r, double later) {
+    double clock;
+    if (r->report[2] != JT_END_REACHED) {
+        pauses.before++;
+        return 1;
+    }
+    CHECK_NUMBER(JT_OK, jt_get_global_time(r->state.words, r->state.len, &clock));
+    r->report[2] = JT_END_SPENT;
+    return clock < later && fetch(r);
+}
+
+static void pause_at(const struct start *s, double later, uint64_t allowance, uint64_t more) {
+    struct start after = *s;
+    struct run paused = in_one_go(s, allowance);
+    uint64_t before = paused.report[2] == JT_END_REACHED ? paused.report[0] : allowance;
+    after.until = later;
+    if (made_ready(&paused, later)) {
+        struct run whole = in_one_go(&after, before + more);
+        go_on(&after, &paused, more);
+        check_same(&after, &whole, &paused);
+        run_free(whole);
+    }
+    run_free(paused);
+}
+
+static void pause_at_each(struct start *s, const double *clocks, size_t len) {
+    s->timed = 1;
+    for (size_t i = 0; i < len; i++)
+        for (size_t k = i; k < len; k++)
+            for (uint64_t steps = 0; steps <= 143; steps++) {
+                s->until = clocks[i];
+                pause_at(s, clocks[k], steps / 12, steps % 12);
+            }
+}
+
+/* With room for all rows, and with room for two: 13 before the pause, at it and after it. */
+static void test_pause_at_a_clock(void) {
+    static void (*const makes[])(struct start *) = {bench_start, stopwatch_start, nested_start, ring_start};
+    static const double clocks[] = {0, 0.25, 1.5, 4, 9.5, 10, 16, 20};
+    memset(&pauses, 0, sizeof pauses);
+    for (size_t i = 0; i < sizeof makes / sizeof makes[0]; i++) {
+        struct start s;
+        makes[i](&s);
+        pause_at_each(&s, clocks, 8);
+        s.rows_len = 3 * JT_MESSAGE_WORDS - 1;
+        pause_at_each(&s, clocks, 8);
+        start_free(&s);
+    }
+    CHECK(pauses.fetched > 0 && pauses.before > 0);
+}
+
+/* Not fetched, they are lost: one job out of a batcher in the first step, paused at 0. */
+static void test_not_fetched(void) {
+    struct start s;
+    uint64_t report[3];
+    start_with(&s, NULL, 0);
+    batcher(&s.bench, 1, 1, 0);
+    connector(&s.bench, 1, 2, 9, 1);
+    post_with_jobs(&s, 1);
+    s.timed = 1;
+    struct run paused = in_one_go(&s, 1);
+    CHECK_NUMBER(JT_END_REACHED, paused.report[2]);
+    s.until = 10;
+    CHECK_NUMBER(JT_OK, part(&s, &paused, 1, report));
+    CHECK(paused.report[1] == 0 && report[1] == 0 && untouched(paused.rows.words, paused.rows.len));
+    struct run whole = in_one_go(&s, 2);
+    CHECK_NUMBER(1, whole.report[1]);
+    run_free(whole);
+    run_free(paused);
+    start_free(&s);
+}
+
 /* ---- what is no second part of the same run */
 /* With what it lacked a refused run goes on: another run, of which nothing is said here but that it does. */
 static void check_goes_on(struct start *s, uint32_t number, const double *times, size_t times_len, size_t rows_len) {
@@ -468,6 +558,8 @@ int main(void) {
     test_after_reached();
     test_steps_after_reached();
     test_bad_until();
+    test_pause_at_a_clock();
+    test_not_fetched();
     test_another_run();
     test_rest_of_services();
     test_past_the_end();

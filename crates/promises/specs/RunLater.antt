@@ -1,26 +1,27 @@
 -- A run of `step_until` paused at an earlier clock: run until `early`, collect the messages that this left active, run until `later`. That is the run until `later`. Assumes nothing.
 use Prim.Native.Nat.{ℕ, zero, suc, _+_, _-_, _≤_}
 use mathlib.Core.Path.{_≡_, refl, sym, ap, subst, _∙_}
-use mathlib.Core.Bool.{Bool, true, false}
+use mathlib.Core.Bool.{Bool, true, false, not}
 use mathlib.Core.List.{List, [], _++_, append-assoc, append-nil}
 use native.Mathlib.Omega.{arith}
-use native.Mathlib.Nat.{suc-add, zero-add}
+use native.Mathlib.Nat.{suc-add, zero-add, sub-zero}
 use lib.ListN.{length, length-append}
-use lib.Dec.{T, leb, le→leb, T-not, not-T}
+use lib.Dec.{T, leb, leb→le, le→leb, T-not, not-T}
 use lib.Ieee.{Float, lt, le}
 use Rattle.times.specs.Time.{isTime}
 use Rattle.times.specs.Laws as law
-use Rattle.rules.specs.declared.Refusal.the-variants.{NoOutRoom}
+use Rattle.rules.specs.declared.Refusal.{Refusal}
+use Rattle.rules.specs.declared.Refusal.the-variants.{NoOutRoom, BadState}
 use Rattle.rules.specs.declared.Message.{Message}
 use Rattle.rules.specs.Sizes.{isWord}
 use Rattle.rules.specs.Base.{Outcome, refused, done, if_then_else_}
 use Rattle.rules.specs.Simulation.{Simulation}
 use Rattle.rules.specs.Step.{Happening, oneStep}
 use Rattle.rules.specs.Valid.{isValid}
-use Rattle.rules.specs.Calls.{Reached, Ran, ended, thenRan, onward, look, stepsUntil, stepUntil}
+use Rattle.rules.specs.Calls.{Reached, Spent, Refused, Ran, ended, thenRan, onward, look, stepsUntil, stepUntil}
 use Rattle.rules.specs.Ends.{Ends, goes, ends-map}
 use Rattle.rules.specs.Runs.{Valid, valid-of, step-ends, NotTwenty, any-closed, stepUntil-valid}
-use Rattle.promises.specs.RunOn.{joined, roomLeft, runOn, collected, join-then, less-rows, reached-not, looks, Judged, judge, fine, bad}
+use Rattle.promises.specs.RunOn.{joined, roomLeft, runOn, collected, join-then, less-rows, reached-not, from-none, at-once, until-stepwise, looks, bad-state-again, Judged, judge, fine, bad}
 
 -- ---- a clock below `early` is below `later`
 below-both : (clock early later : Float) → T (isTime clock) → T (isTime early) → T (isTime later) → T (le early later) → T (lt clock early) → T (lt clock later)
@@ -117,8 +118,68 @@ module _ (services : List Float) (short : T (isWord (length services))) (early l
               ∙ sym (one room b sim next log e (p .before) long)
               ∙ ap (λ (n : ℕ). on room n sim) (sym (suc-add 0 b ∙ ap suc (zero-add b)))
 
--- ==== the theorem: with the messages of the pause collected, and as many steps allowed as were made before it and are allowed after it
+  -- a first part that did not reach `early`: each of its steps is one of the run until `later`
+  refused-both : (room n : ℕ) (sim : Simulation) (r : Refusal) → oneStep services sim ≡ refused r → on room (suc n) sim ≡ ended (Refused r) sim
+  unfolding stepsUntil
+  refused-both room n sim r e = ap (λ (o : Outcome (Simulation × List Happening)). look later room sim o (λ next. on (room - length (next .active)) n next)) e
+
+  full-both : (room n : ℕ) (sim next : Simulation) (log : List Happening) → oneStep services sim ≡ done (next, log) → T (lt (next .clock) later) → T (not (leb (length (next .active)) room)) → on room (suc n) sim ≡ ended (Refused NoOutRoom) sim
+  unfolding stepsUntil
+  full-both room n sim next log e below full =
+      ap (λ (o : Outcome (Simulation × List Happening)). look later room sim o rest) e ∙ go (lt (next .clock) later) below (leb (length (next .active)) room) full
+    where
+      rest : Simulation → Ran
+      rest next = on (room - length (next .active)) n next
+
+      go : (l : Bool) → T l → (f : Bool) → T (not f)
+          → (if l then onward sim (if f then done (next, log) else refused NoOutRoom) rest else thenRan [] log (ended Reached next)) ≡ ended (Refused NoOutRoom) sim
+      go true t true u = absurd u
+      go true t false u = refl
+      go false t f u = absurd t
+
+  steps-on-later : (a b room : ℕ) (sim : Simulation) → Valid sim → (first room a sim .end ≡ Reached → ⊥) → runOn (first room a sim) room (λ left next. on left b next) ≡ on room (a + b) sim
+  unfolding stepsUntil
+  steps-on-later zero b room sim v h =
+      from-none Spent (λ left n s. on left n s) (until-stepwise services later) sim (on (room - 0) b sim)
+      ∙ ap (λ (left : ℕ). on left b sim) (sub-zero room)
+      ∙ ap (λ (n : ℕ). on room n sim) (sym (zero-add b))
+  steps-on-later (suc a) b room sim v h =
+      go (oneStep services sim) refl (next-valid sim v) h (λ next. steps-on-later a b (room - length (next .active)) next) ∙ ap (λ (n : ℕ). on room n sim) (sym (suc-add a b))
+    where
+      rest : Simulation → Ran
+      rest next = first (room - length (next .active)) a next
+
+      OnLater : Ran → Type 0
+      OnLater r = runOn r room (λ left next. on left b next) ≡ on room (suc (a + b)) sim
+
+      stopped : (r : Refusal) → ((n : ℕ) → on room (suc n) sim ≡ ended (Refused r) sim) → OnLater (ended (Refused r) sim)
+      stopped r e = at-once Spent (λ left n s. on left n s) (until-stepwise services later) room b sim r e ∙ sym (e (a + b))
+
+      go : (o : Outcome (Simulation × List Happening)) → oneStep services sim ≡ o → Ends NotTwenty (λ (r : Simulation × List Happening). Valid (r .0)) o
+          → (look early room sim o rest .end ≡ Reached → ⊥)
+          → ((next : Simulation) → Valid next → (rest next .end ≡ Reached → ⊥) → runOn (rest next) (room - length (next .active)) (λ left s. on left b s) ≡ on (room - length (next .active)) (a + b) next)
+          → OnLater (look early room sim o rest)
+      go (refused r) e k h ih = stopped r (λ n. refused-both room n sim r e)
+      go (done (next, log)) e (goes k) h ih =
+          below (lt (next .clock) early) (λ t. below-both (next .clock) early later (k .clock) e-time l-time order t) (leb (length (next .active)) room) (leb→le (length (next .active)) room) (λ u. u) h
+        where
+          looked : Bool → Bool → Ran
+          looked l f = if l then onward sim (if f then done (next, log) else refused NoOutRoom) rest else thenRan [] log (ended Reached next)
+
+          below : (l : Bool) → (T l → T (lt (next .clock) later)) → (f : Bool) → (T f → length (next .active) ≤ room) → (T (not f) → T (not (leb (length (next .active)) room))) → (looked l f .end ≡ Reached → ⊥) → OnLater (looked l f)
+          below false t f fits full h = absurd (h refl)
+          below true t false fits full h = stopped NoOutRoom (λ n. full-both room n sim next log e (t tt) (full tt))
+          below true t true fits full h =
+              let r = rest next in
+              let left = room - length (next .active) in
+              ap (λ (n : ℕ). joined (thenRan (next .active) log r) (on n b (r .sim))) (less-rows room (next .active) (r .rows))
+              ∙ join-then (next .active) log r (on (roomLeft left r) b (r .sim))
+              ∙ ap (thenRan (next .active) log) (ih next k h)
+              ∙ sym (one room (a + b) sim next log e (t tt) (fits tt))
+
+-- ==== the theorems
 module _ (services : List Float) (short : T (isWord (length services))) (early later : Float) where
+  -- paused where `early` is reached and `later` is not, with the messages of the pause collected: as many steps allowed as were made before it and are allowed after it
   pub until-later : (room a b : ℕ) (sim : Simulation) → T (isTime later) → T (le early later)
       → stepUntil services early room a sim .end ≡ Reached → T (lt (stepUntil services early room a sim .sim .clock) later) → length (collected (stepUntil services early room a sim) .rows) ≤ room
       → runOn (collected (stepUntil services early room a sim)) room (λ left next. stepUntil services later left b next)
@@ -139,3 +200,26 @@ module _ (services : List Float) (short : T (isWord (length services))) (early l
           (ap (joined (collected r)) (looks services later (roomLeft room (collected r)) b (r .sim) next-valid l)
           ∙ steps-later services short early later e l order a b room sim (valid-of sim v) paused
           ∙ sym (looks services later room (r .steps + b) sim v l))
+
+  -- paused before `early` is reached
+  pub until-on-later : (room a b : ℕ) (sim : Simulation) → T (isTime early) → T (isTime later) → T (le early later) → (stepUntil services early room a sim .end ≡ Reached → ⊥)
+      → runOn (stepUntil services early room a sim) room (λ left next. stepUntil services later left b next) ≡ stepUntil services later room (a + b) sim
+  until-on-later room a b sim e l order h = go (isValid sim) refl
+    where
+      Later : Ran → Type 0
+      Later r = runOn r room (λ left next. stepUntil services later left b next) ≡ stepUntil services later room (a + b) sim
+
+      go : (x : Bool) → isValid sim ≡ x → Later (stepUntil services early room a sim)
+      go true q =
+          let v = subst T (sym q) tt in
+          let is = looks services early room a sim v e in
+          let r = stepsUntil services early room a sim in
+          let next-valid = subst (λ (f : Ran). T (isValid (f .sim))) is (stepUntil-valid services early room a sim short v .sim) in
+          subst Later (sym is)
+          (ap (joined r) (looks services later (roomLeft room r) b (r .sim) next-valid l)
+          ∙ steps-on-later services short early later e l order a b room sim (valid-of sim v) (λ reached. h (ap (λ (f : Ran). f .end) is ∙ reached))
+          ∙ sym (looks services later room (a + b) sim v l))
+      go false q =
+          let v = not-T (isValid sim) (λ t. subst T q t) in
+          subst Later (sym (bad-state-again services early room a sim v))
+          (ap (joined (ended (Refused BadState) sim)) (bad-state-again services later (room - 0) b sim v) ∙ sym (bad-state-again services later room (a + b) sim v))

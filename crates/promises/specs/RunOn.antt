@@ -87,12 +87,12 @@ pub reached-not : (r : Refusal) → Refused r ≡ Reached → ⊥
 reached-not r e = let z : _≡_ {A = ℕ} 0 1 = cc in omega arith
 
 -- ---- runs that go step by step, `step_n` and `step_until` alike: what the next step is does not go by how many are asked for
-data Turn (run : ℕ → ℕ → Simulation → Ran) (room : ℕ) (sim : Simulation) : Type 0 where
+pub data Turn (run : ℕ → ℕ → Simulation → Ran) (room : ℕ) (sim : Simulation) : Type 0 where
   stop : (r : Refusal) → ((n : ℕ) → run room (suc n) sim ≡ ended (Refused r) sim) → Turn run room sim
   reach : (next : Simulation) (log : List Happening) → ((n : ℕ) → run room (suc n) sim ≡ thenRan [] log (ended Reached next)) → Turn run room sim
   go : (next : Simulation) (log : List Happening) → ((n : ℕ) → run room (suc n) sim ≡ thenRan (next .active) log (run (room - length (next .active)) n next)) → Turn run room sim
 
-record Stepwise (finish : End) (run : ℕ → ℕ → Simulation → Ran) : Type 0 where
+pub record Stepwise (finish : End) (run : ℕ → ℕ → Simulation → Ran) : Type 0 where
   none : (room : ℕ) (sim : Simulation) → run room 0 sim ≡ ended finish sim
   turn : (room : ℕ) (sim : Simulation) → Turn run room sim
   not-refused : (r : Refusal) → finish ≡ Refused r → ⊥
@@ -102,7 +102,7 @@ module _ (finish : End) (run : ℕ → ℕ → Simulation → Ran) (stepwise : S
   abbrev on : (room a b : ℕ) → Simulation → Ran
   on room a b sim = runOn (run room a sim) room (λ left next. run left b next)
 
-  from-none : (sim : Simulation) (second : Ran) → joined (ended finish sim) second ≡ second
+  pub from-none : (sim : Simulation) (second : Ran) → joined (ended finish sim) second ≡ second
   from-none sim second =
       let e = go finish (stepwise .not-refused) in
       let p = zero-add (second .steps) in
@@ -115,7 +115,7 @@ module _ (finish : End) (run : ℕ → ℕ → Simulation → Ran) (stepwise : S
       go (Refused r) h = absurd (h r refl)
 
   -- a first step that is refused is refused in each part
-  at-once : (room b : ℕ) (sim : Simulation) (r : Refusal) → ((n : ℕ) → run room (suc n) sim ≡ ended (Refused r) sim) → joined (ended (Refused r) sim) (run (room - 0) b sim) ≡ ended (Refused r) sim
+  pub at-once : (room b : ℕ) (sim : Simulation) (r : Refusal) → ((n : ℕ) → run room (suc n) sim ≡ ended (Refused r) sim) → joined (ended (Refused r) sim) (run (room - 0) b sim) ≡ ended (Refused r) sim
   at-once room zero sim r e = ap (joined (ended (Refused r) sim)) (stepwise .none (room - 0) sim)
   at-once room (suc b) sim r e = ap (λ (left : ℕ). joined (ended (Refused r) sim) (run left (suc b) sim)) (sub-zero room) ∙ ap (joined (ended (Refused r) sim)) (e b)
 
@@ -203,7 +203,7 @@ module _ (services : List Float) where
       one room sim (refused r) e = stop r (λ n. ap (λ (o : Outcome (Simulation × List Happening)). onward sim o (λ next. steps services (room - length (next .active)) n next)) e)
       one room sim (done (next, log)) e = go next log (λ n. ap (λ (o : Outcome (Simulation × List Happening)). onward sim o (λ next. steps services (room - length (next .active)) n next)) e)
 
-  until-stepwise : (until : Float) → Stepwise Spent (λ room n sim. stepsUntil services until room n sim)
+  pub until-stepwise : (until : Float) → Stepwise Spent (λ room n sim. stepsUntil services until room n sim)
   unfolding stepsUntil
   until-stepwise until = record {
     none = λ room sim. refl;
