@@ -294,13 +294,24 @@ module _ (services : List Float) where
         ap (joined first) (in-parts ns (roomLeft room first) (first .sim)) ∙ run-on room n (total ns) sim
 
     -- "a second part of at least one step is then refused at once with the same number and 0 steps"
-    pub refused-again : (room a b : ℕ) (sim : Simulation) (r : Refusal) → T (isValid sim) → stepN services room a sim .end ≡ Refused r
+    pub refused-again : (room a b : ℕ) (sim : Simulation) (r : Refusal) → stepN services room a sim .end ≡ Refused r
         → stepN services (roomLeft room (stepN services room a sim)) (suc b) (stepN services room a sim .sim) ≡ ended (Refused r) (stepN services room a sim .sim)
-    refused-again room a b sim r v q =
-        let first = steps services room a sim in
-        let is = passes room a sim v in
-        subst (λ (f : Ran). stepN services (roomLeft room f) (suc b) (f .sim) ≡ ended (Refused r) (f .sim)) (sym is)
-        (passes (roomLeft room first) (suc b) (first .sim) (next-valid room a sim v) ∙ run-again Done (λ left n s. steps services left n s) (steps-stepwise services) a b room sim r (ap (λ (f : Ran). f .end) (sym is) ∙ q))
+    refused-again room a b sim r q = go (isValid sim) refl
+      where
+        Again : Ran → Type 0
+        Again f = stepN services (roomLeft room f) (suc b) (f .sim) ≡ ended (Refused r) (f .sim)
+
+        go : (x : Bool) → isValid sim ≡ x → Again (stepN services room a sim)
+        go true e =
+            let v = subst T (sym e) tt in
+            let first = steps services room a sim in
+            let is = passes room a sim v in
+            subst Again (sym is)
+            (passes (roomLeft room first) (suc b) (first .sim) (next-valid room a sim v) ∙ run-again Done (λ left n s. steps services left n s) (steps-stepwise services) a b room sim r (ap (λ (f : Ran). f .end) (sym is) ∙ q))
+        go false e =
+            let v = not-T (isValid sim) (λ t. subst T e t) in
+            let is = stopped room a sim v in
+            subst Again (sym is) (stopped (room - 0) (suc b) sim v ∙ ap (λ (y : Refusal). ended (Refused y) sim) (refused-same r BadState (ap (λ (f : Ran). f .end) (sym is) ∙ q)))
 
     -- "a second part of no steps answers done"
     pub nothing-more : (room left a : ℕ) (sim : Simulation) → T (isValid sim) → stepN services left 0 (stepN services room a sim .sim) ≡ ended Done (stepN services room a sim .sim)
