@@ -1,4 +1,4 @@
--- Demand 3, the batcher's answer for good. To be believed: Story, and the statements of the theorems of Demand3, Six, Arrivals, Comes and of the cases.
+-- Demand 3, the batcher's answer for good; and A11 of document 02, running on is the same as running through. To be believed: Story and the definitions of RunOn, and the statements of the theorems of Demand3, Six, Arrivals, Comes, RunOn, RunLater and of the cases.
 -- definitions: the history of a batcher, and the demand as one record
 pub mod Story
 -- the batcher's own machine over any list of its events; every call's log is such a list for each batcher row

@@ -1,27 +1,27 @@
--- A run of `step_until` paused at an earlier clock: run until `early`, collect the messages that this left active, run until `later`. That is the run until `later`. Assumes nothing.
+-- A run of `step_until` paused at an earlier clock: until `early`, and then until `later`. With the messages collected that the pause left active it is the run until `later`. Assumes nothing.
 use Prim.Native.Nat.{ℕ, zero, suc, _+_, _-_, _≤_}
 use mathlib.Core.Path.{_≡_, refl, sym, ap, subst, _∙_}
 use mathlib.Core.Bool.{Bool, true, false, not}
+use mathlib.Core.Logic.{inl, inr}
 use mathlib.Core.List.{List, [], _++_, append-assoc, append-nil}
 use native.Mathlib.Omega.{arith}
-use native.Mathlib.Nat.{suc-add, zero-add, sub-zero}
+use native.Mathlib.Nat.{suc-add, zero-add}
 use lib.ListN.{length, length-append}
-use lib.Dec.{T, leb, leb→le, le→leb, T-not, not-T}
+use lib.Dec.{T, leb, le→leb, T-not, not-T}
 use lib.Ieee.{Float, lt, le}
 use Rattle.times.specs.Time.{isTime}
 use Rattle.times.specs.Laws as law
-use Rattle.rules.specs.declared.Refusal.{Refusal}
-use Rattle.rules.specs.declared.Refusal.the-variants.{NoOutRoom, BadState}
+use Rattle.rules.specs.declared.Refusal.the-variants.{NoOutRoom}
 use Rattle.rules.specs.declared.Message.{Message}
 use Rattle.rules.specs.Sizes.{isWord}
 use Rattle.rules.specs.Base.{Outcome, refused, done, if_then_else_}
 use Rattle.rules.specs.Simulation.{Simulation}
 use Rattle.rules.specs.Step.{Happening, oneStep}
 use Rattle.rules.specs.Valid.{isValid}
-use Rattle.rules.specs.Calls.{Reached, Spent, Refused, Ran, ended, thenRan, onward, look, stepsUntil, stepUntil}
+use Rattle.rules.specs.Calls.{Reached, Ran, ended, thenRan, onward, look, stepsUntil, stepUntil}
 use Rattle.rules.specs.Ends.{Ends, goes, ends-map}
 use Rattle.rules.specs.Runs.{Valid, valid-of, step-ends, NotTwenty, any-closed, stepUntil-valid}
-use Rattle.promises.specs.RunOn.{joined, roomLeft, runOn, collected, join-then, less-rows, reached-not, from-none, at-once, until-stepwise, looks, bad-state-again, Judged, judge, fine, bad}
+use Rattle.promises.specs.RunOn.{joined, roomLeft, runOn, collected, join-then, less-rows, reached-not, looks, Judged, judge, fine, bad, bad-state-again, until-on}
 
 -- ---- a clock below `early` is below `later`
 below-both : (clock early later : Float) → T (isTime clock) → T (isTime early) → T (isTime later) → T (le early later) → T (lt clock early) → T (lt clock later)
@@ -118,73 +118,73 @@ module _ (services : List Float) (short : T (isWord (length services))) (early l
               ∙ sym (one room b sim next log e (p .before) long)
               ∙ ap (λ (n : ℕ). on room n sim) (sym (suc-add 0 b ∙ ap suc (zero-add b)))
 
-  -- a first part that did not reach `early`: each of its steps is one of the run until `later`
-  refused-both : (room n : ℕ) (sim : Simulation) (r : Refusal) → oneStep services sim ≡ refused r → on room (suc n) sim ≡ ended (Refused r) sim
+  -- a run until `early` that did not reach it, or reached `later` with it, is the run until `later`
+  steps-same : (a room : ℕ) (sim : Simulation) → Valid sim → (first room a sim .end ≡ Reached → T (not (lt (first room a sim .sim .clock) later))) → on room a sim ≡ first room a sim
   unfolding stepsUntil
-  refused-both room n sim r e = ap (λ (o : Outcome (Simulation × List Happening)). look later room sim o (λ next. on (room - length (next .active)) n next)) e
-
-  full-both : (room n : ℕ) (sim next : Simulation) (log : List Happening) → oneStep services sim ≡ done (next, log) → T (lt (next .clock) later) → T (not (leb (length (next .active)) room)) → on room (suc n) sim ≡ ended (Refused NoOutRoom) sim
-  unfolding stepsUntil
-  full-both room n sim next log e below full =
-      ap (λ (o : Outcome (Simulation × List Happening)). look later room sim o rest) e ∙ go (lt (next .clock) later) below (leb (length (next .active)) room) full
-    where
-      rest : Simulation → Ran
-      rest next = on (room - length (next .active)) n next
-
-      go : (l : Bool) → T l → (f : Bool) → T (not f)
-          → (if l then onward sim (if f then done (next, log) else refused NoOutRoom) rest else thenRan [] log (ended Reached next)) ≡ ended (Refused NoOutRoom) sim
-      go true t true u = absurd u
-      go true t false u = refl
-      go false t f u = absurd t
-
-  steps-on-later : (a b room : ℕ) (sim : Simulation) → Valid sim → (first room a sim .end ≡ Reached → ⊥) → runOn (first room a sim) room (λ left next. on left b next) ≡ on room (a + b) sim
-  unfolding stepsUntil
-  steps-on-later zero b room sim v h =
-      from-none Spent (λ left n s. on left n s) (until-stepwise services later) sim (on (room - 0) b sim)
-      ∙ ap (λ (left : ℕ). on left b sim) (sub-zero room)
-      ∙ ap (λ (n : ℕ). on room n sim) (sym (zero-add b))
-  steps-on-later (suc a) b room sim v h =
-      go (oneStep services sim) refl (next-valid sim v) h (λ next. steps-on-later a b (room - length (next .active)) next) ∙ ap (λ (n : ℕ). on room n sim) (sym (suc-add a b))
+  steps-same zero room sim v h = refl
+  steps-same (suc a) room sim v h = go (oneStep services sim) (next-valid sim v) h (λ next. steps-same a (room - length (next .active)) next)
     where
       rest : Simulation → Ran
       rest next = first (room - length (next .active)) a next
 
-      OnLater : Ran → Type 0
-      OnLater r = runOn r room (λ left next. on left b next) ≡ on room (suc (a + b)) sim
+      more : Simulation → Ran
+      more next = on (room - length (next .active)) a next
 
-      stopped : (r : Refusal) → ((n : ℕ) → on room (suc n) sim ≡ ended (Refused r) sim) → OnLater (ended (Refused r) sim)
-      stopped r e = at-once Spent (λ left n s. on left n s) (until-stepwise services later) room b sim r e ∙ sym (e (a + b))
+      Past : Ran → Type 0
+      Past r = r .end ≡ Reached → T (not (lt (r .sim .clock) later))
 
-      go : (o : Outcome (Simulation × List Happening)) → oneStep services sim ≡ o → Ends NotTwenty (λ (r : Simulation × List Happening). Valid (r .0)) o
-          → (look early room sim o rest .end ≡ Reached → ⊥)
-          → ((next : Simulation) → Valid next → (rest next .end ≡ Reached → ⊥) → runOn (rest next) (room - length (next .active)) (λ left s. on left b s) ≡ on (room - length (next .active)) (a + b) next)
-          → OnLater (look early room sim o rest)
-      go (refused r) e k h ih = stopped r (λ n. refused-both room n sim r e)
-      go (done (next, log)) e (goes k) h ih =
-          below (lt (next .clock) early) (λ t. below-both (next .clock) early later (k .clock) e-time l-time order t) (leb (length (next .active)) room) (leb→le (length (next .active)) room) (λ u. u) h
+      go : (o : Outcome (Simulation × List Happening)) → Ends NotTwenty (λ (r : Simulation × List Happening). Valid (r .0)) o → Past (look early room sim o rest)
+          → ((next : Simulation) → Valid next → Past (rest next) → more next ≡ rest next)
+          → look later room sim o more ≡ look early room sim o rest
+      go (refused r) k h ih = refl
+      go (done (next, log)) (goes k) h ih = below (lt (next .clock) early) (λ t. below-both (next .clock) early later (k .clock) e-time l-time order t) (lt (next .clock) later) refl (leb (length (next .active)) room) h
         where
-          looked : Bool → Bool → Ran
-          looked l f = if l then onward sim (if f then done (next, log) else refused NoOutRoom) rest else thenRan [] log (ended Reached next)
+          looked : (Simulation → Ran) → Bool → Bool → Ran
+          looked on l f = if l then onward sim (if f then done (next, log) else refused NoOutRoom) on else thenRan [] log (ended Reached next)
 
-          below : (l : Bool) → (T l → T (lt (next .clock) later)) → (f : Bool) → (T f → length (next .active) ≤ room) → (T (not f) → T (not (leb (length (next .active)) room))) → (looked l f .end ≡ Reached → ⊥) → OnLater (looked l f)
-          below false t f fits full h = absurd (h refl)
-          below true t false fits full h = stopped NoOutRoom (λ n. full-both room n sim next log e (t tt) (full tt))
-          below true t true fits full h =
-              let r = rest next in
-              let left = room - length (next .active) in
-              ap (λ (n : ℕ). joined (thenRan (next .active) log r) (on n b (r .sim))) (less-rows room (next .active) (r .rows))
-              ∙ join-then (next .active) log r (on (roomLeft left r) b (r .sim))
-              ∙ ap (thenRan (next .active) log) (ih next k h)
-              ∙ sym (one room (a + b) sim next log e (t tt) (fits tt))
+          below : (l : Bool) → (T l → T (lt (next .clock) later)) → (m : Bool) → lt (next .clock) later ≡ m → (f : Bool) → Past (looked rest l f) → looked more m f ≡ looked rest l f
+          below true t true e true h = ap (thenRan (next .active) log) (ih next k h)
+          below true t true e false h = refl
+          below true t false e f h = absurd (subst T e (t tt))
+          below false t true e f h = absurd (T-not (lt (next .clock) later) (h refl) (subst T (sym e) tt))
+          below false t false e f h = refl
+
+-- a run that has reached `until` left a clock that is not below it
+both-nots : (b : Bool) → T (not (not b)) → T b
+both-nots true t = tt
+both-nots false t = absurd t
+
+reached-late : (services : List Float) (until : Float) (n room : ℕ) (sim : Simulation) → stepsUntil services until room n sim .end ≡ Reached → T (not (lt (stepsUntil services until room n sim .sim .clock) until))
+unfolding stepsUntil
+reached-late services until zero room sim h = let z : _≡_ {A = ℕ} 0 1 = cc in absurd (omega arith)
+reached-late services until (suc n) room sim h = go (oneStep services sim) h (λ next. reached-late services until n (room - length (next .active)) next)
+  where
+    rest : Simulation → Ran
+    rest next = stepsUntil services until (room - length (next .active)) n next
+
+    Late : Ran → Type 0
+    Late r = T (not (lt (r .sim .clock) until))
+
+    go : (o : Outcome (Simulation × List Happening)) → look until room sim o rest .end ≡ Reached → ((next : Simulation) → rest next .end ≡ Reached → Late (rest next)) → Late (look until room sim o rest)
+    go (refused r) h ih = absurd (reached-not r h)
+    go (done (next, log)) h ih = below (lt (next .clock) until) refl (leb (length (next .active)) room) h
+      where
+        looked : Bool → Bool → Ran
+        looked l f = if l then onward sim (if f then done (next, log) else refused NoOutRoom) rest else thenRan [] log (ended Reached next)
+
+        below : (l : Bool) → lt (next .clock) until ≡ l → (f : Bool) → looked l f .end ≡ Reached → Late (looked l f)
+        below true e true h = ih next h
+        below true e false h = absurd (reached-not NoOutRoom h)
+        below false e f h = subst (λ (b : Bool). T (not b)) (sym e) tt
 
 -- ==== the theorems
 module _ (services : List Float) (short : T (isWord (length services))) (early later : Float) where
-  -- paused where `early` is reached and `later` is not, with the messages of the pause collected: as many steps allowed as were made before it and are allowed after it
-  pub until-later : (room a b : ℕ) (sim : Simulation) → T (isTime later) → T (le early later)
+  -- paused where `early` is reached and `later` is not, with the messages of the pause collected: as many steps are allowed as were made before it and are allowed after it
+  pub until-later : (room a b : ℕ) (sim : Simulation) → T (isTime later)
       → stepUntil services early room a sim .end ≡ Reached → T (lt (stepUntil services early room a sim .sim .clock) later) → length (collected (stepUntil services early room a sim) .rows) ≤ room
       → runOn (collected (stepUntil services early room a sim)) room (λ left next. stepUntil services later left b next)
       ≡ stepUntil services later room (stepUntil services early room a sim .steps + b) sim
-  until-later room a b sim l order reached before room-for = go (judge services early sim)
+  until-later room a b sim l reached before room-for = go (judge services early sim)
     where
       Later : Ran → Type 0
       Later r = runOn (collected r) room (λ left next. stepUntil services later left b next) ≡ stepUntil services later room (r .steps + b) sim
@@ -194,32 +194,40 @@ module _ (services : List Float) (short : T (isWord (length services))) (early l
       go (fine v e) =
           let is = looks services early room a sim v e in
           let r = stepsUntil services early room a sim in
-          let paused = subst (λ (f : Ran). Paused services short early later e l order room f) is (record { reached = reached; before = before; fits = room-for }) in
           let next-valid = subst (λ (f : Ran). T (isValid (f .sim))) is (stepUntil-valid services early room a sim short v .sim) in
+          let c = law.time-timer (r .sim .clock) (valid-of (r .sim) next-valid .clock) in
+          let e′ = law.time-timer early e in
+          let l′ = law.time-timer later l in
+          let before′ = subst (λ (f : Ran). T (lt (f .sim .clock) later)) is before in
+          let not-below = reached-late services early a room sim (ap (λ (f : Ran). f .end) (sym is) ∙ reached) in
+          let from : T (le early (r .sim .clock)) = both-nots (le early (r .sim .clock)) (subst (λ (b : Bool). T (not b)) (law.timers-lt (r .sim .clock) early c e′) not-below) in
+          let to : T (le (r .sim .clock) later) = elim (law.timers-total (r .sim .clock) later c l′) [ inl h ↦ h | inr h ↦ absurd (T-not (le later (r .sim .clock)) (subst T (law.timers-lt (r .sim .clock) later c l′) before′) h) ] in
+          let order = law.timers-transitive early (r .sim .clock) later e′ c l′ from to in
+          let paused = subst (λ (f : Ran). Paused services short early later e l order room f) is (record { reached = reached; before = before; fits = room-for }) in
           subst Later (sym is)
           (ap (joined (collected r)) (looks services later (roomLeft room (collected r)) b (r .sim) next-valid l)
           ∙ steps-later services short early later e l order a b room sim (valid-of sim v) paused
           ∙ sym (looks services later room (r .steps + b) sim v l))
 
-  -- paused before `early` is reached
-  pub until-on-later : (room a b : ℕ) (sim : Simulation) → T (isTime early) → T (isTime later) → T (le early later) → (stepUntil services early room a sim .end ≡ Reached → ⊥)
-      → runOn (stepUntil services early room a sim) room (λ left next. stepUntil services later left b next) ≡ stepUntil services later room (a + b) sim
-  until-on-later room a b sim e l order h = go (isValid sim) refl
+  -- where there is no such pause, `early` not reached or `later` reached with it: the run until `early` is the run until `later`
+  pub until-same : (room a : ℕ) (sim : Simulation) → T (isTime early) → T (isTime later) → T (le early later)
+      → (stepUntil services early room a sim .end ≡ Reached → T (not (lt (stepUntil services early room a sim .sim .clock) later)))
+      → stepUntil services later room a sim ≡ stepUntil services early room a sim
+  until-same room a sim e l order h = go (isValid sim) refl
     where
-      Later : Ran → Type 0
-      Later r = runOn r room (λ left next. stepUntil services later left b next) ≡ stepUntil services later room (a + b) sim
-
-      go : (x : Bool) → isValid sim ≡ x → Later (stepUntil services early room a sim)
+      go : (x : Bool) → isValid sim ≡ x → stepUntil services later room a sim ≡ stepUntil services early room a sim
       go true q =
           let v = subst T (sym q) tt in
           let is = looks services early room a sim v e in
-          let r = stepsUntil services early room a sim in
-          let next-valid = subst (λ (f : Ran). T (isValid (f .sim))) is (stepUntil-valid services early room a sim short v .sim) in
-          subst Later (sym is)
-          (ap (joined r) (looks services later (roomLeft room r) b (r .sim) next-valid l)
-          ∙ steps-on-later services short early later e l order a b room sim (valid-of sim v) (λ reached. h (ap (λ (f : Ran). f .end) is ∙ reached))
-          ∙ sym (looks services later room (a + b) sim v l))
-      go false q =
-          let v = not-T (isValid sim) (λ t. subst T q t) in
-          subst Later (sym (bad-state-again services early room a sim v))
-          (ap (joined (ended (Refused BadState) sim)) (bad-state-again services later (room - 0) b sim v) ∙ sym (bad-state-again services later room (a + b) sim v))
+          looks services later room a sim v l
+          ∙ steps-same services short early later e l order a room sim (valid-of sim v) (subst (λ (f : Ran). f .end ≡ Reached → T (not (lt (f .sim .clock) later))) is h)
+          ∙ sym is
+      go false q = let v = not-T (isValid sim) (λ t. subst T q t) in bad-state-again services later room a sim v ∙ sym (bad-state-again services early room a sim v)
+
+  -- so a run that has not reached `early` goes on until `later` as it is
+  pub until-on-later : (room a b : ℕ) (sim : Simulation) → T (isTime early) → T (isTime later) → T (le early later) → (stepUntil services early room a sim .end ≡ Reached → ⊥)
+      → runOn (stepUntil services early room a sim) room (λ left next. stepUntil services later left b next) ≡ stepUntil services later room (a + b) sim
+  until-on-later room a b sim e l order h =
+      let same = until-same room a sim e l order (λ q. absurd (h q)) in
+      ap (λ (r : Ran). runOn r room (λ left next. stepUntil services later left b next)) (sym same)
+      ∙ until-on services later short room a b sim (λ q. h (ap (λ (r : Ran). r .end) (sym same) ∙ q))

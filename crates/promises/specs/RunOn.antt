@@ -50,7 +50,7 @@ runOn first room second = joined first (second (roomLeft room first) (first .sim
 abbrev pub stepNOn : List Float → (room a b : ℕ) → Simulation → Ran
 stepNOn services room a b sim = runOn (stepN services room a sim) room (λ left next. stepN services left b next)
 
--- and with as many pauses as one likes: a part for each number of the list
+-- and with as many pauses as one likes: a part for each number of the list, and one of no steps at last
 abbrev pub total : List ℕ → ℕ
 total [] = 0
 total (n ∷ ns) = n + total ns
@@ -65,7 +65,7 @@ inParts services room (n ∷ ns) sim =
 abbrev pub stepUntilOn : List Float → Float → (room a b : ℕ) → Simulation → Ran
 stepUntilOn services until room a b sim = runOn (stepUntil services until room a sim) room (λ left next. stepUntil services until left b next)
 
--- a run that has reached its `until`, with the messages of its last step, which it did not collect, put after its rows (so `get_messages` lists them)
+-- a run that has reached its `until`, with the messages of its last step, which it did not collect, put after its rows (as `get_messages` lists them)
 abbrev pub collected : Ran → Ran
 collected r = record { end = r .end; sim = r .sim; steps = r .steps; rows = r .rows ++ r .sim .active; log = r .log }
 
@@ -87,12 +87,12 @@ pub reached-not : (r : Refusal) → Refused r ≡ Reached → ⊥
 reached-not r e = let z : _≡_ {A = ℕ} 0 1 = cc in omega arith
 
 -- ---- runs that go step by step, `step_n` and `step_until` alike: what the next step is does not go by how many are asked for
-pub data Turn (run : ℕ → ℕ → Simulation → Ran) (room : ℕ) (sim : Simulation) : Type 0 where
+data Turn (run : ℕ → ℕ → Simulation → Ran) (room : ℕ) (sim : Simulation) : Type 0 where
   stop : (r : Refusal) → ((n : ℕ) → run room (suc n) sim ≡ ended (Refused r) sim) → Turn run room sim
   reach : (next : Simulation) (log : List Happening) → ((n : ℕ) → run room (suc n) sim ≡ thenRan [] log (ended Reached next)) → Turn run room sim
   go : (next : Simulation) (log : List Happening) → ((n : ℕ) → run room (suc n) sim ≡ thenRan (next .active) log (run (room - length (next .active)) n next)) → Turn run room sim
 
-pub record Stepwise (finish : End) (run : ℕ → ℕ → Simulation → Ran) : Type 0 where
+record Stepwise (finish : End) (run : ℕ → ℕ → Simulation → Ran) : Type 0 where
   none : (room : ℕ) (sim : Simulation) → run room 0 sim ≡ ended finish sim
   turn : (room : ℕ) (sim : Simulation) → Turn run room sim
   not-refused : (r : Refusal) → finish ≡ Refused r → ⊥
@@ -102,7 +102,7 @@ module _ (finish : End) (run : ℕ → ℕ → Simulation → Ran) (stepwise : S
   abbrev on : (room a b : ℕ) → Simulation → Ran
   on room a b sim = runOn (run room a sim) room (λ left next. run left b next)
 
-  pub from-none : (sim : Simulation) (second : Ran) → joined (ended finish sim) second ≡ second
+  from-none : (sim : Simulation) (second : Ran) → joined (ended finish sim) second ≡ second
   from-none sim second =
       let e = go finish (stepwise .not-refused) in
       let p = zero-add (second .steps) in
@@ -115,7 +115,7 @@ module _ (finish : End) (run : ℕ → ℕ → Simulation → Ran) (stepwise : S
       go (Refused r) h = absurd (h r refl)
 
   -- a first step that is refused is refused in each part
-  pub at-once : (room b : ℕ) (sim : Simulation) (r : Refusal) → ((n : ℕ) → run room (suc n) sim ≡ ended (Refused r) sim) → joined (ended (Refused r) sim) (run (room - 0) b sim) ≡ ended (Refused r) sim
+  at-once : (room b : ℕ) (sim : Simulation) (r : Refusal) → ((n : ℕ) → run room (suc n) sim ≡ ended (Refused r) sim) → joined (ended (Refused r) sim) (run (room - 0) b sim) ≡ ended (Refused r) sim
   at-once room zero sim r e = ap (joined (ended (Refused r) sim)) (stepwise .none (room - 0) sim)
   at-once room (suc b) sim r e = ap (λ (left : ℕ). joined (ended (Refused r) sim) (run left (suc b) sim)) (sub-zero room) ∙ ap (joined (ended (Refused r) sim)) (e b)
 
@@ -203,7 +203,7 @@ module _ (services : List Float) where
       one room sim (refused r) e = stop r (λ n. ap (λ (o : Outcome (Simulation × List Happening)). onward sim o (λ next. steps services (room - length (next .active)) n next)) e)
       one room sim (done (next, log)) e = go next log (λ n. ap (λ (o : Outcome (Simulation × List Happening)). onward sim o (λ next. steps services (room - length (next .active)) n next)) e)
 
-  pub until-stepwise : (until : Float) → Stepwise Spent (λ room n sim. stepsUntil services until room n sim)
+  until-stepwise : (until : Float) → Stepwise Spent (λ room n sim. stepsUntil services until room n sim)
   unfolding stepsUntil
   until-stepwise until = record {
     none = λ room sim. refl;
@@ -240,9 +240,10 @@ module _ (services : List Float) where
       go true t = refl
       go false t = absurd t
 
-  stopped : (room n : ℕ) (sim : Simulation) → T (not (isValid sim)) → stepN services room n sim ≡ ended (Refused BadState) sim
+  -- in each part, one of no steps too
+  pub bad-state-twice : (room n : ℕ) (sim : Simulation) → T (not (isValid sim)) → stepN services room n sim ≡ ended (Refused BadState) sim
   unfolding stepN
-  stopped room n sim v = go (isValid sim) v
+  bad-state-twice room n sim v = go (isValid sim) v
     where
       go : (b : Bool) → T (not b) → (if b then steps services room n sim else ended (Refused BadState) sim) ≡ ended (Refused BadState) sim
       go true t = absurd t
@@ -260,12 +261,12 @@ module _ (services : List Float) where
       go (refused r) e ih = reached-not r e
       go (done (next, log)) e ih = ih next e
 
-  -- ==== the theorems of `step_n`. The service list is as long as a list can be that is lent: below 2^64
+  -- ==== the theorems of `step_n`. The service list is no longer than one that is lent can be: below 2^64 times
   module _ (short : T (isWord (length services))) where
     next-valid : (room n : ℕ) (sim : Simulation) → T (isValid sim) → T (isValid (steps services room n sim .sim))
     next-valid room n sim v = subst (λ (r : Ran). T (isValid (r .sim))) (passes room n sim v) (stepN-valid services room n sim short v .sim)
 
-    -- "a steps and then b steps .. shall give the end state, rows, total steps and answer of one call with a + b": for every simulation, one that 20 refuses too, and whatever the room
+    -- "a steps and then b steps .. shall give the end state, rows, total steps and answer of one call with a + b": for every simulation, one that 20 refuses too, and whatever the room. One call takes a + b only below 2^64; the theorem does not need it
     pub run-on : (room a b : ℕ) (sim : Simulation) → stepNOn services room a b sim ≡ stepN services room (a + b) sim
     run-on room a b sim = go (isValid sim) refl
       where
@@ -282,9 +283,9 @@ module _ (services : List Float) where
             ∙ sym (passes room (a + b) sim v)
         go false e =
             let v = not-T (isValid sim) (λ t. subst T e t) in
-            ap (λ (r : Ran). runOn r room second) (stopped room a sim v)
-            ∙ ap (joined (ended (Refused BadState) sim)) (stopped (room - 0) b sim v)
-            ∙ sym (stopped room (a + b) sim v)
+            ap (λ (r : Ran). runOn r room second) (bad-state-twice room a sim v)
+            ∙ ap (joined (ended (Refused BadState) sim)) (bad-state-twice (room - 0) b sim v)
+            ∙ sym (bad-state-twice room (a + b) sim v)
 
     -- the same with any number of pauses
     pub in-parts : (ns : List ℕ) (room : ℕ) (sim : Simulation) → inParts services room ns sim ≡ stepN services room (total ns) sim
@@ -294,13 +295,24 @@ module _ (services : List Float) where
         ap (joined first) (in-parts ns (roomLeft room first) (first .sim)) ∙ run-on room n (total ns) sim
 
     -- "a second part of at least one step is then refused at once with the same number and 0 steps"
-    pub refused-again : (room a b : ℕ) (sim : Simulation) (r : Refusal) → T (isValid sim) → stepN services room a sim .end ≡ Refused r
+    pub refused-again : (room a b : ℕ) (sim : Simulation) (r : Refusal) → stepN services room a sim .end ≡ Refused r
         → stepN services (roomLeft room (stepN services room a sim)) (suc b) (stepN services room a sim .sim) ≡ ended (Refused r) (stepN services room a sim .sim)
-    refused-again room a b sim r v q =
-        let first = steps services room a sim in
-        let is = passes room a sim v in
-        subst (λ (f : Ran). stepN services (roomLeft room f) (suc b) (f .sim) ≡ ended (Refused r) (f .sim)) (sym is)
-        (passes (roomLeft room first) (suc b) (first .sim) (next-valid room a sim v) ∙ run-again Done (λ left n s. steps services left n s) (steps-stepwise services) a b room sim r (ap (λ (f : Ran). f .end) (sym is) ∙ q))
+    refused-again room a b sim r q = go (isValid sim) refl
+      where
+        Again : Ran → Type 0
+        Again f = stepN services (roomLeft room f) (suc b) (f .sim) ≡ ended (Refused r) (f .sim)
+
+        go : (x : Bool) → isValid sim ≡ x → Again (stepN services room a sim)
+        go true e =
+            let v = subst T (sym e) tt in
+            let first = steps services room a sim in
+            let is = passes room a sim v in
+            subst Again (sym is)
+            (passes (roomLeft room first) (suc b) (first .sim) (next-valid room a sim v) ∙ run-again Done (λ left n s. steps services left n s) (steps-stepwise services) a b room sim r (ap (λ (f : Ran). f .end) (sym is) ∙ q))
+        go false e =
+            let v = not-T (isValid sim) (λ t. subst T e t) in
+            let is = bad-state-twice room a sim v in
+            subst Again (sym is) (bad-state-twice (room - 0) (suc b) sim v ∙ ap (λ (y : Refusal). ended (Refused y) sim) (refused-same r BadState (ap (λ (f : Ran). f .end) (sym is) ∙ q)))
 
     -- "a second part of no steps answers done"
     pub nothing-more : (room left a : ℕ) (sim : Simulation) → T (isValid sim) → stepN services left 0 (stepN services room a sim .sim) ≡ ended Done (stepN services room a sim .sim)
@@ -357,7 +369,7 @@ module _ (services : List Float) (until : Float) where
     left-valid : (room n : ℕ) (sim : Simulation) → T (isValid sim) → T (isTime until) → T (isValid (run room n sim .sim))
     left-valid room n sim v u = subst (λ (r : Ran). T (isValid (r .sim))) (looks room n sim v u) (stepUntil-valid services until room n sim short v .sim)
 
-    -- an allowance cut in two is the whole allowance, where the first part did not reach `until`
+    -- an allowance cut in two is the whole allowance, where the first part did not reach `until`. One call takes a + b only below 2^32; the theorem does not need it
     pub until-on : (room a b : ℕ) (sim : Simulation) → (stepUntil services until room a sim .end ≡ Reached → ⊥) → stepUntilOn services until room a b sim ≡ stepUntil services until room (a + b) sim
     until-on room a b sim h = go (judge sim)
       where
@@ -385,7 +397,7 @@ module _ (services : List Float) (until : Float) where
             ∙ run-reached Spent run (until-stepwise services until) a b room sim (ap (λ (f : Ran). f .end) (sym (looks room a sim v u)) ∙ h)
             ∙ sym (looks room a sim v u)
 
-    -- and then a second part, of whatever allowance, takes it elsewhere: it makes a step, or ends otherwise
+    -- a part that ends Reached has made a step
     reached-steps : (room n : ℕ) (sim : Simulation) → stepUntil services until room n sim .end ≡ Reached → stepUntil services until room n sim .steps ≡ 0 → ⊥
     reached-steps room n sim h q = go (judge sim)
       where
@@ -402,6 +414,7 @@ module _ (services : List Float) (until : Float) where
         go (bad r e) = reached-not r (ap (λ (f : Ran). f .end) (sym (e room n)) ∙ h)
         go (fine v u) = let is = looks room n sim v u in some n (ap (λ (f : Ran). f .end) (sym is) ∙ h) (ap (λ (f : Ran). f .steps) (sym is) ∙ q)
 
+    -- and then two parts joined are never the whole: the second makes a step, or does not end Reached
     pub until-not-on : (room a b : ℕ) (sim : Simulation) → stepUntil services until room a sim .end ≡ Reached → stepUntilOn services until room a b sim ≡ stepUntil services until room (a + b) sim → ⊥
     until-not-on room a b sim h same =
         let first = stepUntil services until room a sim in

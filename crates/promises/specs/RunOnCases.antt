@@ -2,7 +2,7 @@
 use Prim.Native.Nat.{ℕ, _+_}
 use mathlib.Core.Path.{_≡_, refl}
 use mathlib.Core.List.{List, [], _∷_}
-use lib.Ieee.{Float, add, sub, lt, le, eq, fits, ofBits, toBits}
+use lib.Ieee.{Float, binary64, add, sub, lt, le, eq, fits, ofBits, toBits}
 use Rattle.times.specs.Time.{instant, isTime, isTimer, leastOf}
 use Rattle.rules.specs.declared.Refusal.the-variants.{BadTime, Idle, NoOutRoom, BadState}
 use Rattle.rules.specs.declared.Message.{Message}
@@ -14,7 +14,7 @@ use Rattle.rules.specs.Models.{service, processorExternal, processorInternal, b
 use Rattle.rules.specs.Step.{timer, external, internal, stepOn}
 use Rattle.rules.specs.Valid.{isValid}
 use Rattle.rules.specs.Calls.{post, injectInput, End, Done, Reached, Spent, Refused, Ran, steps, stepN, stepsUntil, stepUntil}
-use Rattle.rules.specs.Examples.{ten, minusZero, posted, row, aBatcher, link, message, job, start}
+use Rattle.rules.specs.Examples.{five, ten, minusZero, posted, row, aBatcher, link, message, job, start}
 use Rattle.promises.specs.RunOn.{roomLeft, runOn, stepNOn, stepUntilOn, collected}
 
 -- ---- what is seen of a run
@@ -65,12 +65,12 @@ all = gone instant 11 ∷ gone instant 12 ∷ gone ten 13 ∷ []
 abbrev pub threeJobs : List Message
 threeJobs = job 1 1 11 ∷ job 1 1 12 ∷ job 1 1 13 ∷ []
 
--- run until `early`, then until `later`, as it is and with the messages of the pause collected; and the run until `later`
-unfoldable pub paused : (early later : Float) (a b : ℕ) → Simulation → List Part
-paused early later a b sim =
-    let r = stepUntil [] early 256 a sim in
+-- run until `early`, then until `later`, as it is and with the messages of the pause collected; and the run until `later` with an allowance of `whole`
+unfoldable pub paused : (early later : Float) (room a b whole : ℕ) → Simulation → List Part
+paused early later room a b whole sim =
+    let r = stepUntil [] early room a sim in
     let on : ℕ → Simulation → Ran = λ left next. stepUntil [] later left b next in
-    allSeen r (runOn r 256 on) (runOn (collected r) 256 on) (stepUntil [] later 256 (r .steps + b) sim)
+    allSeen r (runOn r room on) (runOn (collected r) room on) (stepUntil [] later room whole sim)
 
 -- ---- a case: a table is posted, messages are injected, all of which must be accepted; then the run is cut, and this is seen
 pub record Case : Type 0 where
@@ -100,6 +100,9 @@ ofOne run then = record { rows = oneBatcher 1; messages = job 1 1 11 ∷ []; run
 abbrev pub onlyEleven : List Message
 onlyEleven = gone instant 11 ∷ []
 
+abbrev pub twenty : Float
+twenty = ofBits binary64 0x4034_0000_0000_0000
+
 abbrev pub cases : List Case
 cases =
     -- `step_n`
@@ -120,20 +123,28 @@ cases =
     ∷ ofNone (job 1 1 11 ∷ []) (cutUntil instant 0 1 1) (part Reached 1 [] ∷ part (Refused Idle) 0 [] ∷ part (Refused Idle) 1 [] ∷ part Reached 1 [] ∷ [])
     ∷ ofNone (job 1 1 11 ∷ []) (cutUntil instant 0 1 0) (part Reached 1 [] ∷ part Spent 0 [] ∷ part Spent 1 [] ∷ part Reached 1 [] ∷ [])
     -- after a refused first part an allowance of 0 answers Spent, and not Done; but a bad `until` is 10 again
-    ∷ ofNone [] (cutUntil ten 0 1 0) (part (Refused Idle) 0 [] ∷ part Spent 0 [] ∷ part (Refused Idle) 0 [] ∷ part (Refused Idle) 0 [] ∷ [])
-    ∷ ofNone [] (cutUntil minusZero 0 1 0) (part (Refused BadTime) 0 [] ∷ part (Refused BadTime) 0 [] ∷ part (Refused BadTime) 0 [] ∷ part (Refused BadTime) 0 [] ∷ [])
-    -- a pause at an earlier clock loses the rows of the step that reaches it, if nobody collects them
-    ∷ ofOne (paused instant ten 1 1) (part Reached 1 [] ∷ part Spent 2 [] ∷ part Spent 2 onlyEleven ∷ part Spent 2 onlyEleven ∷ [])
+    ∷ ofNone [] (cutUntil instant 0 1 0) (part (Refused Idle) 0 [] ∷ part Spent 0 [] ∷ part (Refused Idle) 0 [] ∷ part (Refused Idle) 0 [] ∷ [])
+    ∷ ofNone [] (cutUntil minusZero 0 0 0) (part (Refused BadTime) 0 [] ∷ part (Refused BadTime) 0 [] ∷ part (Refused BadTime) 0 [] ∷ part (Refused BadTime) 0 [] ∷ [])
+    -- a pause at an earlier clock: with its messages collected it is the whole
+    ∷ ofThree (paused ten twenty 256 3 1 4) (part Reached 3 first ∷ part Spent 4 first ∷ part Spent 4 all ∷ part Spent 4 all ∷ [])
+    -- if nobody collects them, the rows of the step that reaches it are lost
+    ∷ ofOne (paused instant ten 256 1 1 2) (part Reached 1 [] ∷ part Spent 2 [] ∷ part Spent 2 onlyEleven ∷ part Spent 2 onlyEleven ∷ [])
+    -- where they do not fit, the pause completes a step that the whole, which must collect it, refuses with 13
+    ∷ ofOne (paused instant ten 0 1 0 1) (part Reached 1 [] ∷ part Spent 1 [] ∷ part Spent 1 onlyEleven ∷ part (Refused NoOutRoom) 0 [] ∷ [])
+    -- the whole's allowance is the steps made before the pause and what is allowed after it, and not both allowances
+    ∷ ofNone (job 1 1 11 ∷ []) (paused instant ten 0 2 0 2) (part Reached 1 [] ∷ part Spent 1 [] ∷ part Spent 1 [] ∷ part (Refused Idle) 1 [] ∷ [])
+    -- a step that reaches both clocks is the last of the whole, which does not collect it either
+    ∷ ofThree (paused five ten 256 3 0 3) (part Reached 3 first ∷ part Spent 3 first ∷ part Spent 3 all ∷ part Reached 3 first ∷ [])
     ∷ []
 
 pub all-hold : AllHold cases
 unfolding cut cutUntil paused start post injectInput isValid passesIntake intake stepN steps stepUntil stepsUntil stepOn service processorExternal processorInternal batcherExternal batcherInternal stopwatchExternal stopwatchInternal timer external internal isTime isTimer leastOf add sub lt le eq fits ofBits toBits
-all-hold = (refl, (refl, (refl, (refl, (refl, (refl, (refl, (refl, (refl, (refl, (refl, (refl, (refl, (refl, tt))))))))))))))
+all-hold = (refl, (refl, (refl, (refl, (refl, (refl, (refl, (refl, (refl, (refl, (refl, (refl, (refl, (refl, (refl, (refl, (refl, (refl, tt))))))))))))))))))
 
 -- 20 comes first in both parts: a simulation that lacks a row's state
-abbrev pub short : Simulation
-short = record { table = record { rows = oneBatcher 2; connectors = []; couplings = [] }; states = []; active = []; clock = instant; place = 0 }
+abbrev pub lacking : Simulation
+lacking = record { table = record { rows = oneBatcher 2; connectors = []; couplings = [] }; states = []; active = []; clock = instant; place = 0 }
 
-pub twenty-twice : cut 0 1 0 short ≡ part (Refused BadState) 0 [] ∷ part (Refused BadState) 0 [] ∷ part (Refused BadState) 0 [] ∷ part (Refused BadState) 0 [] ∷ []
+pub twenty-twice : cut 0 1 0 lacking ≡ part (Refused BadState) 0 [] ∷ part (Refused BadState) 0 [] ∷ part (Refused BadState) 0 [] ∷ part (Refused BadState) 0 [] ∷ []
 unfolding cut isValid passesIntake intake stepN isTime isTimer leastOf add sub lt le eq fits ofBits toBits
 twenty-twice = refl
