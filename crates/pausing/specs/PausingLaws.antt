@@ -1,20 +1,20 @@
 -- Running on is the same as running through, of jt_step_n: two calls on one state buffer and one output are one call. Assumes nothing.
-use Prim.Native.Nat.{ℕ, _+_, _-_, _*_, _≤_}
+use Prim.Native.Nat.{ℕ, zero, suc, _+_, _-_, _*_, _≤_}
 use mathlib.Core.Path.{_≡_, refl, sym, ap, subst, _∙_}
-use mathlib.Core.Bool.{Bool, true, false}
+use mathlib.Core.Bool.{Bool, true, false, not}
 use mathlib.Core.List.{List, [], _∷_, _++_, append-assoc}
 use native.Mathlib.Omega.{arith}
 use lib.ListN.{length, take, drop, length-append, length-drop}
 use lib.Seq.{length-take-le, take-at}
-use lib.Dec.{T, eqb}
+use lib.Dec.{T, ltb, eqb, nltb→le, eqb→eq}
 use lib.Ieee.{Float}
 use Rattle.times.specs.Order.{same-test}
 use Rattle.rules.specs.declared.Message.{Message}
 use Rattle.rules.specs.declared.Refusal.{Refusal}
-use Rattle.rules.specs.declared.Refusal.the-variants.{TooLarge, BadRow, BadCoupling, ModelNotFound, InvalidMessage, InvalidModelState, NoQueueRoom, NoMessageRoom, NoServiceTime, BadTime, ClockOverflow, Idle, NoOutRoom, BadState}
+use Rattle.rules.specs.declared.Refusal.the-variants.{BadState}
 use Rattle.rules.specs.Names.{number}
 use Rattle.rules.specs.Sizes.{isWord}
-use Rattle.rules.specs.Base.{if_then_else_}
+use Rattle.rules.specs.Base.{refused, if_then_else_}
 use Rattle.rules.specs.Layout.{messageWidth, roomIn, laidDown}
 use Rattle.rules.specs.Simulation.{Simulation}
 use Rattle.rules.specs.Valid.{isValid}
@@ -22,38 +22,32 @@ use Rattle.rules.specs.Calls as Calls
 use Rattle.rules.specs.Calls.{End, Done, Reached, Spent, Refused, Ran, ended}
 use Rattle.rules.specs.Runs.{Valid, valid-of, NotTwenty, stepN-keeps, stepN-valid}
 use Rattle.rules.specs.Refused.{Counted, steps-counted}
-use Rattle.lookup.specs.Inside.{tailAt, tableIn}
+use Rattle.lookup.specs.Inside.{tailAt, modelsIn, connectorsIn, couplingsIn, tableIn}
 use Rattle.rerunning.specs.Running.{tailIn, simOf}
 use Rattle.copying.specs.CopiedLaws.{laid-long}
 use Rattle.engine.specs.RunLaws.{laid-more}
-use Rattle.storing.specs.StoredLaws.{stored-inside, stored-of, stored-holds}
-use Rattle.chains.specs.ChainLaws.{same-table, kept-beyond, kept-counts, kept-needed}
-use Rattle.storing.specs.State.{changing, kept, isStored}
+use Rattle.storing.specs.StoredLaws.{stored-inside, stored-of, stored-holds, laid-is, kept-same}
+use Rattle.chains.specs.ChainLaws.{same-table, kept-counts, zero-done}
+use Rattle.storing.specs.State.{changing, laidState, over, kept, isStored}
 use Rattle.storing.specs.Lent.{runIn}
 use Rattle.storing.specs.KeptLaws.{changing-long, kept-is, passes-on}
 use Rattle.storing.specs.ReadBack.{kept-stored}
 use Rattle.simulation.specs.CallLaws as call
 use Rattle.host.specs.Numbers.{endNumber, endWord, reported, reportAfter}
-use Rattle.promises.specs.RunOn.{wholeEnd, joined, roomLeft, passes, run-on}
-use Rattle.chains.specs.Chain.{needed}
-use Rattle.pausing.specs.Pausing.{Made, stepN, stepsIn, rowsIn, endIn, nextRow, unlessRefused, asOne, stepNOn, stateEnd, stateIn, Same}
+use Rattle.promises.specs.RunOn.{wholeEnd, joined, roomLeft, total, passes, run-on, refused-again}
+use Rattle.pausing.specs.Pausing.{Made, jtStepN, stepsTold, rowsTold, endTold, nextRow, restOf, unlessRefused, asOne, jtStepNOn, blank, jtInParts, stateEnd, upToEnd, Same, pausedAfter}
 
--- ---- the answer for the whole
+-- ---- the answer for the whole: a refusal's number is not 0
 number-some : (r : Refusal) → eqb (number r) 0 ≡ false
-number-some TooLarge = refl
-number-some BadRow = refl
-number-some BadCoupling = refl
-number-some ModelNotFound = refl
-number-some InvalidMessage = refl
-number-some InvalidModelState = refl
-number-some NoQueueRoom = refl
-number-some NoMessageRoom = refl
-number-some NoServiceTime = refl
-number-some BadTime = refl
-number-some ClockOverflow = refl
-number-some Idle = refl
-number-some NoOutRoom = refl
-number-some BadState = refl
+number-some r =
+    same-test (eqb (number r) 0) false
+    (λ t. let e = zero-done {A = ℕ} (refused r) (eqb→eq (number r) 0 t) .1 in let z : _≡_ {A = ℕ} 0 1 = cc in absurd (omega arith)) absurd
+
+number-of : (end : End) → T (not (eqb (endNumber end) 0)) → (r : Refusal) × (end ≡ Refused r)
+number-of Done t = absurd t
+number-of Reached t = absurd t
+number-of Spent t = absurd t
+number-of (Refused r) t = (r, refl)
 
 -- by whatever word of its end
 whole-word : (word : End → ℕ) (first second : End) → unlessRefused (endNumber first) (word first) (word second) ≡ word (wholeEnd first second)
@@ -64,7 +58,7 @@ whole-word word (Refused r) second = ap (λ (b : Bool). if b then word second el
 
 -- ---- a report of three words: all are written
 report-told : (report : List ℕ) (steps rows end : ℕ) → length report ≡ 3
-    → (stepsIn (reported steps rows end report) ≡ steps) × (rowsIn (reported steps rows end report) ≡ rows) × (endIn (reported steps rows end report) ≡ end)
+    → (stepsTold (reported steps rows end report) ≡ steps) × (rowsTold (reported steps rows end report) ≡ rows) × (endTold (reported steps rows end report) ≡ end)
 report-told [] steps rows end e = absurd (omega arith)
 report-told (x ∷ []) steps rows end e = absurd (omega arith)
 report-told (x ∷ y ∷ []) steps rows end e = absurd (omega arith)
@@ -91,8 +85,8 @@ module _ (state : List ℕ) (stored : T (isStored state)) (next : Simulation) (s
   same-tail : tailAt after ≡ tailAt state
   same-tail = let (rows, links, inner) = kept-counts state stored next same ok in omega arith
 
-  words-are : stateIn after ≡ take (tailAt state) state ++ changing next
-  words-are =
+  state-words : upToEnd after ≡ take (tailAt state) state ++ changing next
+  state-words =
       let inside = stored-inside state stored in
       let (there, is) = kept-stored state next stored same ok in
       let long = changing-long (tableIn after) (tailIn after) (stored-holds after (stored-of after there)) in
@@ -103,12 +97,25 @@ module _ (state : List ℕ) (stored : T (isStored state)) (next : Simulation) (s
       ∙ take-at (take (tailAt state) state ++ changing next) (drop (tailAt state + length (changing next)) state) (tailAt state + length (changing next))
       (length-append (take (tailAt state) state) (changing next) ∙ ap (λ (n : ℕ). n + length (changing next)) front-long)
 
+-- so of a buffer that 20 lets pass they are the words that the layout makes of the simulation in it
+pub up-to-end : (state : List ℕ) → T (isStored state) → upToEnd state ≡ laidState (modelsIn state) (connectorsIn state) (couplingsIn state) (simOf state)
+up-to-end state stored =
+    ap upToEnd (sym (kept-same state stored))
+    ∙ state-words state stored (simOf state) refl (subst T (sym (passes-on state stored)) tt)
+    ∙ sym (laid-is state (stored-inside state stored) (simOf state))
+
+-- words over themselves
+over-own : (n : ℕ) (words : List ℕ) → over (take n words) words ≡ words
+over-own zero words = refl
+over-own (suc n) [] = refl
+over-own (suc n) (x ∷ words) = ap (λ (ws : List ℕ). x ∷ ws) (over-own n words)
+
 -- ---- one call on a buffer that holds a simulation, by the rules' run
 abbrev madeBy : Ran → (state rows report : List ℕ) → Made
 madeBy ran state rows report = record { number = endNumber (ran .end); report = reportAfter report ran; state = kept state (ran .sim); rows = laidDown (ran .rows) rows }
 
 made : (services : List Float) (count : ℕ) (state rows report : List ℕ) → isStored state ≡ true
-    → stepN services count state rows report ≡ madeBy (Calls.stepN services (roomIn rows) count (simOf state)) state rows report
+    → jtStepN services count state rows report ≡ madeBy (Calls.stepN services (roomIn rows) count (simOf state)) state rows report
 made services count state rows report e =
     let run : Simulation → Ran = Calls.stepN services (roomIn rows) count in
     let is = call.run-on state e run in
@@ -116,14 +123,35 @@ made services count state rows report e =
     λ i. record { number = endNumber (is i .end); report = reportAfter report (is i); state = left i; rows = laidDown (is i .rows) rows }
 
 made-20 : (services : List Float) (count : ℕ) (state rows report : List ℕ) → isStored state ≡ false
-    → stepN services count state rows report ≡ record { number = 20; report = reported 0 0 3 report; state = state; rows = rows }
+    → jtStepN services count state rows report ≡ record { number = 20; report = reported 0 0 3 report; state = state; rows = rows }
 made-20 services count state rows report e =
     let run : Simulation → Ran = Calls.stepN services (roomIn rows) count in
     let is = call.run-20 state e run in
     let left = call.left-20 state e (runIn run state) in
     λ i. record { number = endNumber (is i .end); report = reportAfter report (is i); state = left i; rows = laidDown (is i .rows) rows }
 
--- ==== the theorem. The service list is as long as a list can be that is lent, and each part's report has three words: C's types keep both
+-- a run stays with its table
+stays : (services : List Float) → T (isWord (length services)) → (room count : ℕ) (sim : Simulation) → T (isValid sim) → Calls.stepN services room count sim .sim .table ≡ sim .table
+stays services short room count sim valid =
+    stepN-keeps NotTwenty (λ s log. Valid s × (s .table ≡ sim .table)) (same-table (sim .table)) services short room count sim [] (valid-of sim valid, refl) .0 .1
+
+-- it leaves a buffer that 20 lets pass again, with the simulation that the rules' run leaves
+leaves-stored : (services : List Float) → T (isWord (length services)) → (count : ℕ) (state rows report : List ℕ) → T (isStored state)
+    → T (isStored (jtStepN services count state rows report .state)) × (simOf (jtStepN services count state rows report .state) ≡ Calls.stepN services (roomIn rows) count (simOf state) .sim)
+leaves-stored services short count state rows report stored =
+    let sim = simOf state in
+    let valid = subst T (sym (passes-on state stored)) tt in
+    let here = same-test (isStored state) true (λ _. tt) (λ _. stored) in
+    let table = stays services short (roomIn rows) count sim valid in
+    subst (λ (m : Made). T (isStored (m .state)) × (simOf (m .state) ≡ Calls.stepN services (roomIn rows) count sim .sim)) (sym (made services count state rows report here))
+    (kept-stored state (Calls.stepN services (roomIn rows) count sim .sim) stored table (stepN-valid services (roomIn rows) count sim short valid .sim))
+
+-- no steps are no steps
+passes-none : (services : List Float) (room : ℕ) (sim : Simulation) → T (isValid sim) → Calls.stepN services room 0 sim ≡ ended Done sim
+unfolding Calls.steps
+passes-none services room sim v = passes services room 0 sim v
+
+-- ==== the theorems. The service list is no longer than one that is lent can be, and each part's report has three words: C's types keep both
 module _ (services : List Float) (short : T (isWord (length services))) (a b : ℕ) (rows one two report : List ℕ) (three : length one ≡ 3) (three′ : length two ≡ 3) where
   -- a buffer that 20 lets pass
   module _ (state : List ℕ) (stored : T (isStored state)) where
@@ -152,7 +180,7 @@ module _ (services : List Float) (short : T (isWord (length services))) (a b : �
     first-valid = stepN-valid services (roomIn rows) a sim short valid .sim
 
     first-table : first .sim .table ≡ sim .table
-    first-table = stepN-keeps NotTwenty (λ s log. Valid s × (s .table ≡ sim .table)) (same-table (sim .table)) services short (roomIn rows) a sim [] (valid-of sim valid, refl) .0 .1
+    first-table = stays services short (roomIn rows) a sim valid
 
     first-rows : length (first .rows) ≤ roomIn rows
     first-rows = subst (λ (r : Ran). length (r .rows) ≤ roomIn rows) (sym (passes services (roomIn rows) a sim valid)) (steps-counted services a (roomIn rows) sim .rows)
@@ -164,36 +192,36 @@ module _ (services : List Float) (short : T (isWord (length services))) (a b : �
     abbrev rest : List ℕ
     rest = drop (length (first .rows) * messageWidth) (laidDown (first .rows) rows)
 
-    first-made : stepN services a state rows one ≡ madeBy first state rows one
+    first-made : jtStepN services a state rows one ≡ madeBy first state rows one
     first-made = made services a state rows one here
 
     paused-holds : T (isStored paused) × (simOf paused ≡ first .sim)
     paused-holds = kept-stored state (first .sim) stored first-table first-valid
 
     -- and the second
-    second-made : (told : List ℕ) → stepN services b paused rest told ≡ madeBy second paused rest told
+    second-made : (told : List ℕ) → jtStepN services b paused rest told ≡ madeBy second paused rest told
     second-made told =
         let (there, is) = paused-holds in
         made services b paused rest told (same-test (isStored paused) true (λ _. tt) (λ _. there))
         ∙ λ i. madeBy (Calls.stepN services (room-left (first .rows) rows first-rows i) b (is i)) paused rest told
 
-    told-first : (stepsIn (reportAfter one first) ≡ first .steps) × (rowsIn (reportAfter one first) ≡ length (first .rows)) × (endIn (reportAfter one first) ≡ endWord (first .end))
+    told-first : (stepsTold (reportAfter one first) ≡ first .steps) × (rowsTold (reportAfter one first) ≡ length (first .rows)) × (endTold (reportAfter one first) ≡ endWord (first .end))
     told-first = report-told one (first .steps) (length (first .rows)) (endWord (first .end)) three
 
-    told-second : (stepsIn (reportAfter two second) ≡ second .steps) × (rowsIn (reportAfter two second) ≡ length (second .rows)) × (endIn (reportAfter two second) ≡ endWord (second .end))
+    told-second : (stepsTold (reportAfter two second) ≡ second .steps) × (rowsTold (reportAfter two second) ≡ length (second .rows)) × (endTold (reportAfter two second) ≡ endWord (second .end))
     told-second = report-told two (second .steps) (length (second .rows)) (endWord (second .end)) three′
 
-    on-is : stepNOn services a b state rows one two report ≡ asOne report (madeBy first state rows one) (madeBy second paused rest two)
+    on-is : jtStepNOn services a b state rows one two report ≡ asOne report (madeBy first state rows one) (madeBy second paused rest two)
     on-is =
-        ap (λ (m : Made). asOne report m (stepN services b (m .state) (drop (nextRow (m .report)) (m .rows)) two)) first-made
-        ∙ ap (λ (n : ℕ). asOne report (madeBy first state rows one) (stepN services b paused (drop (n * messageWidth) (laidDown (first .rows) rows)) two)) (told-first .1)
+        ap (λ (m : Made). asOne report m (jtStepN services b (m .state) (restOf m) two)) first-made
+        ∙ ap (λ (n : ℕ). asOne report (madeBy first state rows one) (jtStepN services b paused (drop (n * messageWidth) (laidDown (first .rows) rows)) two)) (told-first .1)
         ∙ ap (asOne report (madeBy first state rows one)) (second-made two)
 
     whole-valid : T (isValid (whole .sim))
     whole-valid = stepN-valid services (roomIn rows) (a + b) sim short valid .sim
 
     whole-table : whole .sim .table ≡ sim .table
-    whole-table = stepN-keeps NotTwenty (λ s log. Valid s × (s .table ≡ sim .table)) (same-table (sim .table)) services short (roomIn rows) (a + b) sim [] (valid-of sim valid, refl) .0 .1
+    whole-table = stays services short (roomIn rows) (a + b) sim valid
 
     last-same : second .sim ≡ whole .sim
     last-same = ap (λ (r : Ran). r .sim) both
@@ -204,70 +232,131 @@ module _ (services : List Float) (short : T (isWord (length services))) (a b : �
     second-table : second .sim .table ≡ simOf paused .table
     second-table = ap (λ (s : Simulation). s .table) last-same ∙ whole-table ∙ sym first-table ∙ sym (ap (λ (s : Simulation). s .table) (paused-holds .1))
 
-    same-made : Same state (asOne report (madeBy first state rows one) (madeBy second paused rest two)) (madeBy whole state rows report)
+    -- the words of the state that both leave
+    last-words : take (tailAt paused) paused ++ changing (second .sim) ≡ upToEnd (kept state (whole .sim))
+    last-words =
+        (λ i. (ap (λ (n : ℕ). take n paused) (same-tail state stored (first .sim) first-table first-valid) ∙ front state stored (first .sim) first-table first-valid) i ++ changing (last-same i))
+        ∙ sym (state-words state stored (whole .sim) whole-table whole-valid)
+
+    same-made : Same (asOne report (madeBy first state rows one) (madeBy second paused rest two)) (madeBy whole state rows report)
     same-made =
         let (steps₁, rows₁, end₁) = told-first in
         let (steps₂, rows₂, end₂) = told-second in
-        let there = paused-holds .0 in
-        let last = reported (first .steps + second .steps) in
+        let (paused-there, paused-is) = paused-holds in
+        let (last-there, last-is) = kept-stored paused (second .sim) paused-there second-table second-valid in
+        let (whole-there, whole-is) = kept-stored state (whole .sim) stored whole-table whole-valid in
+        let all = reported (first .steps + second .steps) in
         record {
           number = whole-word endNumber (first .end) (second .end) ∙ ap (λ (r : Ran). endNumber (r .end)) both;
           report =
               (λ i. reported (steps₁ i + steps₂ i) (rows₁ i + rows₂ i) (unlessRefused (endNumber (first .end)) (end₁ i) (end₂ i)) report)
-              ∙ (λ i. last (sym (length-append (first .rows) (second .rows)) i) (whole-word endWord (first .end) (second .end) i) report)
+              ∙ (λ i. all (sym (length-append (first .rows) (second .rows)) i) (whole-word endWord (first .end) (second .end) i) report)
               ∙ ap (reportAfter report) both;
           rows =
               ap (λ (n : ℕ). take (n * messageWidth) (laidDown (first .rows) rows) ++ laidDown (second .rows) rest) rows₁
               ∙ laid-more (first .rows) (second .rows) (length (first .rows)) rows (laidDown (first .rows) rows) refl refl
               ∙ ap (λ (r : Ran). laidDown (r .rows) rows) both;
-          state =
-              words-are paused there (second .sim) second-table second-valid
-              ∙ (λ i. (ap (λ (n : ℕ). take n paused) (same-tail state stored (first .sim) first-table first-valid) ∙ front state stored (first .sim) first-table first-valid) i ++ changing (last-same i))
-              ∙ sym (words-are state stored (whole .sim) whole-table whole-valid);
-          beyond =
-              kept-beyond paused there (second .sim) second-table second-valid (needed state) (let e = kept-needed state stored (first .sim) first-table first-valid in omega arith)
-              ∙ kept-beyond state stored (first .sim) first-table first-valid (needed state) (omega arith);
+          state = state-words paused paused-there (second .sim) second-table second-valid ∙ last-words;
+          passes = same-test (isStored (kept paused (second .sim))) (isStored (kept state (whole .sim))) (λ _. whole-there) (λ _. last-there);
+          sim = last-is ∙ last-same ∙ sym whole-is;
         }
 
+    words-made : kept paused (second .sim) ≡ over (upToEnd (kept state (whole .sim))) paused
+    words-made = ap (λ (words : List ℕ). over words paused) (laid-is paused (stored-inside paused (paused-holds .0)) (second .sim) ∙ last-words)
+
+    -- a first part that is refused
+    again-made : (r : Refusal) → first .end ≡ Refused r → (n : ℕ) → b ≡ suc n → madeBy second paused rest two ≡ record { number = endNumber (first .end); report = reported 0 0 3 two; state = paused; rows = rest }
+    again-made r e n more =
+        let is : second ≡ ended (Refused r) (first .sim) = ap (λ (m : ℕ). Calls.stepN services (roomLeft (roomIn rows) first) m (first .sim)) more ∙ refused-again services short (roomIn rows) a n sim r e in
+        let left = ap (kept paused) (sym (paused-holds .1)) ∙ kept-same paused (paused-holds .0) in
+        ap (λ (ran : Ran). madeBy ran paused rest two) is
+        ∙ λ i. record { number = endNumber (sym e i); report = reported 0 0 3 two; state = left i; rows = rest }
+
   -- a buffer that it does not: "20 comes first", in both
-  same-20 : (state : List ℕ) → isStored state ≡ false → Same state (stepNOn services a b state rows one two report) (stepN services (a + b) state rows report)
-  same-20 state e =
-      subst (λ (m : Made). Same state (stepNOn services a b state rows one two report) m) (sym (made-20 services (a + b) state rows report e))
-      (subst (λ (m : Made). Same state m (bad report)) (sym on-20) (record { number = refl; report = told; rows = refl; state = refl; beyond = refl }))
-    where
-      bad : List ℕ → Made
-      bad report = record { number = 20; report = reported 0 0 3 report; state = state; rows = rows }
+  module _ (state : List ℕ) (e : isStored state ≡ false) where
+    abbrev bad : List ℕ → Made
+    bad told = record { number = 20; report = reported 0 0 3 told; state = state; rows = rows }
 
-      first-20 : (stepsIn (reported 0 0 3 one) ≡ 0) × (rowsIn (reported 0 0 3 one) ≡ 0) × (endIn (reported 0 0 3 one) ≡ 3)
-      first-20 = report-told one 0 0 3 three
+    first-20 : (stepsTold (reported 0 0 3 one) ≡ 0) × (rowsTold (reported 0 0 3 one) ≡ 0) × (endTold (reported 0 0 3 one) ≡ 3)
+    first-20 = report-told one 0 0 3 three
 
-      second-20 : (stepsIn (reported 0 0 3 two) ≡ 0) × (rowsIn (reported 0 0 3 two) ≡ 0) × (endIn (reported 0 0 3 two) ≡ 3)
-      second-20 = report-told two 0 0 3 three′
+    second-20 : (stepsTold (reported 0 0 3 two) ≡ 0) × (rowsTold (reported 0 0 3 two) ≡ 0) × (endTold (reported 0 0 3 two) ≡ 3)
+    second-20 = report-told two 0 0 3 three′
 
-      joined-20 : Made
-      joined-20 = record { number = 20; report = asOne report (bad one) (bad two) .report; state = state; rows = rows }
+    -- the second call, on what the first left
+    again-20 : (n : ℕ) → jtStepN services n (jtStepN services a state rows one .state) (restOf (jtStepN services a state rows one)) two ≡ bad two
+    again-20 n =
+        ap (λ (m : Made). jtStepN services n (m .state) (restOf m) two) (made-20 services a state rows one e)
+        ∙ ap (λ (k : ℕ). jtStepN services n state (drop (k * messageWidth) rows) two) (first-20 .1)
+        ∙ made-20 services n state rows two e
 
-      on-20 : stepNOn services a b state rows one two report ≡ joined-20
-      on-20 =
-          ap (λ (m : Made). asOne report m (stepN services b (m .state) (drop (nextRow (m .report)) (m .rows)) two)) (made-20 services a state rows one e)
-          ∙ ap (λ (n : ℕ). asOne report (bad one) (stepN services b state (drop (n * messageWidth) rows) two)) (first-20 .1)
-          ∙ ap (asOne report (bad one)) (made-20 services b state rows two e)
-          ∙ ap (λ (n : ℕ). record { number = 20; report = asOne report (bad one) (bad two) .report; state = state; rows = take (n * messageWidth) rows ++ rows }) (first-20 .1)
+    on-20 : jtStepNOn services a b state rows one two report ≡ record { number = 20; report = asOne report (bad one) (bad two) .report; state = state; rows = rows }
+    on-20 =
+        (λ i. asOne report (made-20 services a state rows one e i) (again-20 b i))
+        ∙ ap (λ (n : ℕ). record { number = 20; report = asOne report (bad one) (bad two) .report; state = state; rows = take (n * messageWidth) rows ++ rows }) (first-20 .1)
 
-      told : asOne report (bad one) (bad two) .report ≡ reported 0 0 3 report
-      told = λ i. reported (first-20 .0 i + second-20 .0 i) (first-20 .1 i + second-20 .1 i) (first-20 .2 i) report
+    same-20 : Same (jtStepNOn services a b state rows one two report) (jtStepN services (a + b) state rows report)
+    same-20 =
+        let told : asOne report (bad one) (bad two) .report ≡ reported 0 0 3 report = λ i. reported (first-20 .0 i + second-20 .0 i) (first-20 .1 i + second-20 .1 i) (first-20 .2 i) report in
+        subst (λ (m : Made). Same (jtStepNOn services a b state rows one two report) m) (sym (made-20 services (a + b) state rows report e))
+        (subst (λ (m : Made). Same m (bad report)) (sym on-20) (record { number = refl; report = told; rows = refl; state = refl; passes = refl; sim = refl }))
+
+    words-20 : jtStepNOn services a b state rows one two report .state ≡ over (upToEnd (jtStepN services (a + b) state rows report .state)) (jtStepN services a state rows one .state)
+    words-20 =
+        ap (λ (m : Made). m .state) on-20
+        ∙ sym (over-own (stateEnd state) state)
+        ∙ λ i. over (upToEnd (sym (made-20 services (a + b) state rows report e) i .state)) (sym (made-20 services a state rows one e) i .state)
 
   -- "a steps and then b steps .. shall give the end state, rows, total steps and answer of one call with a + b", whatever the buffers hold and however long they are
-  pub going-on : (state : List ℕ) → Same state (stepNOn services a b state rows one two report) (stepN services (a + b) state rows report)
+  pub going-on : (state : List ℕ) → Same (jtStepNOn services a b state rows one two report) (jtStepN services (a + b) state rows report)
   going-on state = go (isStored state) refl
     where
-      go : (x : Bool) → isStored state ≡ x → Same state (stepNOn services a b state rows one two report) (stepN services (a + b) state rows report)
+      go : (x : Bool) → isStored state ≡ x → Same (jtStepNOn services a b state rows one two report) (jtStepN services (a + b) state rows report)
       go true e =
           let stored = subst T (sym e) tt in
           let both = asOne report (madeBy (first state stored) state rows one) (madeBy (second state stored) (paused state stored) (rest state stored) two) in
-          subst (λ (m : Made). Same state m (stepN services (a + b) state rows report)) (sym (on-is state stored))
-          (subst (λ (m : Made). Same state both m) (sym (made services (a + b) state rows report e)) (same-made state stored))
+          subst (λ (m : Made). Same m (jtStepN services (a + b) state rows report)) (sym (on-is state stored))
+          (subst (λ (m : Made). Same both m) (sym (made services (a + b) state rows report e)) (same-made state stored))
       go false e = same-20 state e
+
+  -- all words of the buffer: the state of one call, and beyond its end what stood there at the pause
+  pub going-on-words : (state : List ℕ) → jtStepNOn services a b state rows one two report .state ≡ over (upToEnd (jtStepN services (a + b) state rows report .state)) (jtStepN services a state rows one .state)
+  going-on-words state = go (isStored state) refl
+    where
+      go : (x : Bool) → isStored state ≡ x → jtStepNOn services a b state rows one two report .state ≡ over (upToEnd (jtStepN services (a + b) state rows report .state)) (jtStepN services a state rows one .state)
+      go true e =
+          let stored = subst T (sym e) tt in
+          ap (λ (m : Made). m .state) (on-is state stored)
+          ∙ words-made state stored
+          ∙ λ i. over (upToEnd (sym (made services (a + b) state rows report e) i .state)) (sym (first-made state stored) i .state)
+      go false e = words-20 state e
+
+  -- "a second part of at least one step is then refused at once with the same number and 0 steps": it changes no word but its report
+  pub refused-again-there : (state : List ℕ) (n : ℕ) → b ≡ suc n → T (not (eqb (jtStepN services a state rows one .number) 0))
+      → jtStepN services b (jtStepN services a state rows one .state) (restOf (jtStepN services a state rows one)) two
+      ≡ record { number = jtStepN services a state rows one .number; report = reported 0 0 3 two; state = jtStepN services a state rows one .state; rows = restOf (jtStepN services a state rows one) }
+  refused-again-there state n more t = go (isStored state) refl
+    where
+      Again : Made → Type 0
+      Again m = T (not (eqb (m .number) 0)) → jtStepN services b (m .state) (restOf m) two ≡ record { number = m .number; report = reported 0 0 3 two; state = m .state; rows = restOf m }
+
+      go : (x : Bool) → isStored state ≡ x
+          → jtStepN services b (jtStepN services a state rows one .state) (restOf (jtStepN services a state rows one)) two
+          ≡ record { number = jtStepN services a state rows one .number; report = reported 0 0 3 two; state = jtStepN services a state rows one .state; rows = restOf (jtStepN services a state rows one) }
+      go true e =
+          let stored = subst T (sym e) tt in
+          let made-first = first-made state stored in
+          subst Again (sym made-first)
+          (λ t. let (r, is) = number-of (first state stored .end) t in
+          subst (λ (k : ℕ). jtStepN services b (paused state stored) (drop (k * messageWidth) (laidDown (first state stored .rows) rows)) two
+          ≡ record { number = endNumber (first state stored .end); report = reported 0 0 3 two; state = paused state stored; rows = drop (k * messageWidth) (laidDown (first state stored .rows) rows) })
+          (sym (told-first state stored .1)) (second-made state stored two ∙ again-made state stored r is n more)) t
+      go false e =
+          again-20 state e b
+          ∙ λ i. record { number = sym (made-20 services a state rows one e) i .number; report = reported 0 0 3 two; state = sym (made-20 services a state rows one e) i .state; rows = rest-20 state e i }
+        where
+          rest-20 : (state : List ℕ) (e : isStored state ≡ false) → rows ≡ restOf (jtStepN services a state rows one)
+          rest-20 state e = ap (λ (k : ℕ). drop (k * messageWidth) rows) (sym (first-20 state e .1)) ∙ ap restOf (sym (made-20 services a state rows one e))
 
 -- ---- what a call's report says of it, whatever its buffer holds: no more steps than asked for, and the rows stand in the output
 module _ (services : List Float) (count : ℕ) (state rows report : List ℕ) (three : length report ≡ 3) where
@@ -287,34 +376,92 @@ module _ (services : List Float) (count : ℕ) (state rows report : List ℕ) (t
           subst (Counted (roomIn rows) count Done) (sym (call.run-on state e run ∙ passes services (roomIn rows) count (simOf state) valid)) (steps-counted services count (roomIn rows) (simOf state))
       go false e = subst (Counted (roomIn rows) count Done) (sym (call.run-20 state e (Calls.stepN services (roomIn rows) count))) bad
 
-  pub few-steps : stepsIn (stepN services count state rows report .report) ≤ count
+  pub few-steps : stepsTold (jtStepN services count state rows report .report) ≤ count
   few-steps = let e = report-told report (ran .steps) (length (ran .rows)) (endWord (ran .end)) three .0 in let c = counted .steps in omega arith
 
-  pub few-rows : nextRow (stepN services count state rows report .report) ≤ length rows
+  pub few-rows : nextRow (jtStepN services count state rows report .report) ≤ length rows
   few-rows = let e = report-told report (ran .steps) (length (ran .rows)) (endWord (ran .end)) three .1 in let c = counted .rows in omega arith
 
-  pub laid-rows : length (stepN services count state rows report .rows) ≡ length rows
+  pub laid-rows : length (jtStepN services count state rows report .rows) ≡ length rows
   laid-rows = laid-long (ran .rows) rows (let c = counted .rows in omega arith)
 
+-- "a second part of no steps answers done": on a buffer that 20 lets pass, after whatever part, and whatever output it is lent
+pub nothing-more-there : (services : List Float) → T (isWord (length services)) → (a : ℕ) (state rows left one two : List ℕ) → T (isStored state)
+    → jtStepN services 0 (jtStepN services a state rows one .state) left two ≡ record { number = 0; report = reported 0 0 0 two; state = jtStepN services a state rows one .state; rows = left }
+nothing-more-there services short a state rows left one two stored =
+    let paused = jtStepN services a state rows one .state in
+    let (there, is) = leaves-stored services short a state rows one stored in
+    let here = same-test (isStored paused) true (λ _. tt) (λ _. there) in
+    let none = passes-none services (roomIn left) (simOf paused) (subst T (sym (passes-on paused there)) tt) in
+    made services 0 paused left two here
+    ∙ ap (λ (ran : Ran). madeBy ran paused left two) none
+    ∙ λ i. record { number = 0; report = reported 0 0 0 two; state = kept-same paused there i; rows = left }
+
+-- ==== any number of pauses
+same-then : (report : List ℕ) (first second whole : Made) → Same second whole → Same (asOne report first second) (asOne report first whole)
+same-then report first second whole s = record {
+  number = ap (unlessRefused (first .number) (first .number)) (s .number);
+  report = λ i. reported (stepsTold (first .report) + stepsTold (s .report i)) (rowsTold (first .report) + rowsTold (s .report i)) (unlessRefused (first .number) (endTold (first .report)) (endTold (s .report i))) report;
+  rows = ap (λ (rest : List ℕ). take (nextRow (first .report)) (first .rows) ++ rest) (s .rows);
+  state = s .state;
+  passes = s .passes;
+  sim = s .sim;
+}
+
+same-both : (one other third : Made) → Same one other → Same other third → Same one third
+same-both one other third s t = record {
+  number = s .number ∙ t .number;
+  report = s .report ∙ t .report;
+  rows = s .rows ∙ t .rows;
+  state = s .state ∙ t .state;
+  passes = s .passes ∙ t .passes;
+  sim = s .sim ∙ t .sim;
+}
+
+same-self : (m : Made) → Same m m
+same-self m = record { number = refl; report = refl; rows = refl; state = refl; passes = refl; sim = refl }
+
+pub going-on-in-parts : (services : List Float) → T (isWord (length services)) → (ns : List ℕ) (state rows report : List ℕ) → Same (jtInParts services ns state rows report) (jtStepN services (total ns) state rows report)
+going-on-in-parts services short [] state rows report = same-self (jtStepN services 0 state rows report)
+going-on-in-parts services short (n ∷ ns) state rows report =
+    let first = jtStepN services n state rows blank in
+    let rest = jtStepN services (total ns) (first .state) (restOf first) blank in
+    same-both (jtInParts services (n ∷ ns) state rows report) (asOne report first rest) (jtStepN services (n + total ns) state rows report)
+    (same-then report first (jtInParts services ns (first .state) (restOf first) blank) rest (going-on-in-parts services short ns (first .state) (restOf first) blank))
+    (going-on services short n (total ns) rows blank blank report refl refl state)
+
 -- ==== for a program that makes the two calls, each with a report of three zeros: what their contracts say of them together
-abbrev pub blank : List ℕ
-blank = 0 ∷ 0 ∷ 0 ∷ []
-
 module _ (services : List Float) (a b count : ℕ) (all : a + b ≡ count) (state rows : List ℕ) (first second : Made)
-    (one : first ≡ stepN services a state rows blank) (two : second ≡ stepN services b (first .state) (drop (nextRow (first .report)) (first .rows)) blank) where
-  pub two-calls : T (isWord (length services)) → (report : List ℕ) → Same state (asOne report first second) (stepN services count state rows report)
-  two-calls short report =
-      let both = ap (asOne report first) two ∙ ap (λ (m : Made). asOne report m (stepN services b (m .state) (drop (nextRow (m .report)) (m .rows)) blank)) one in
-      subst (λ (n : ℕ). Same state (asOne report first second) (stepN services n state rows report)) all
-      (subst (λ (m : Made). Same state m (stepN services (a + b) state rows report)) (sym both) (going-on services short a b rows blank blank report refl refl state))
+    (one : first ≡ jtStepN services a state rows blank) (two : second ≡ jtStepN services b (first .state) (restOf first) blank) where
+  both-made : (report : List ℕ) → asOne report first second ≡ jtStepNOn services a b state rows blank blank report
+  both-made report = ap (asOne report first) two ∙ ap (λ (m : Made). asOne report m (jtStepN services b (m .state) (restOf m) blank)) one
 
-  pub two-few : (stepsIn (first .report) + stepsIn (second .report) ≤ count) × (rowsIn (first .report) + rowsIn (second .report) ≤ length rows)
+  pub two-calls : T (isWord (length services)) → (report : List ℕ) → Same (asOne report first second) (jtStepN services count state rows report)
+  two-calls short report =
+      subst (λ (n : ℕ). Same (asOne report first second) (jtStepN services n state rows report)) all
+      (subst (λ (m : Made). Same m (jtStepN services (a + b) state rows report)) (sym (both-made report)) (going-on services short a b rows blank blank report refl refl state))
+
+  pub two-words : T (isWord (length services)) → (report : List ℕ) → second .state ≡ over (upToEnd (jtStepN services count state rows report .state)) (jtStepN services a state rows report .state)
+  two-words short report =
+      ap (λ (m : Made). m .state) (both-made report)
+      ∙ going-on-words services short a b rows blank blank report refl refl state
+      ∙ ap (λ (n : ℕ). over (upToEnd (jtStepN services n state rows report .state)) (jtStepN services a state rows report .state)) all
+
+  pub two-few : (stepsTold (first .report) + stepsTold (second .report) ≤ count) × (rowsTold (first .report) + rowsTold (second .report) ≤ length rows)
   two-few =
-      let rest = drop (nextRow (first .report)) (first .rows) in
-      let steps₁ = subst (λ (m : Made). stepsIn (m .report) ≤ a) (sym one) (few-steps services a state rows blank refl) in
-      let steps₂ = subst (λ (m : Made). stepsIn (m .report) ≤ b) (sym two) (few-steps services b (first .state) rest blank refl) in
+      let rest = restOf first in
+      let steps₁ = subst (λ (m : Made). stepsTold (m .report) ≤ a) (sym one) (few-steps services a state rows blank refl) in
+      let steps₂ = subst (λ (m : Made). stepsTold (m .report) ≤ b) (sym two) (few-steps services b (first .state) rest blank refl) in
       let rows₁ = subst (λ (m : Made). nextRow (m .report) ≤ length rows) (sym one) (few-rows services a state rows blank refl) in
       let rows₂ = subst (λ (m : Made). nextRow (m .report) ≤ length rest) (sym two) (few-rows services b (first .state) rest blank refl) in
       let long = ap (λ (m : Made). length (m .rows)) one ∙ laid-rows services a state rows blank refl in
       let left = length-drop (nextRow (first .report)) (first .rows) in
       (omega arith, omega arith)
+
+-- where it pauses is within the run
+pub after-few : (pause count : ℕ) → pausedAfter pause count ≤ count
+after-few pause count = go (ltb count pause) (λ t. t)
+  where
+    go : (x : Bool) → (T (not x) → T (not (ltb count pause))) → (if x then count else pause) ≤ count
+    go true t = omega arith
+    go false t = nltb→le count pause (t tt)

@@ -2,7 +2,7 @@
 use Prim.Native.Nat.{ℕ, _+_}
 use mathlib.Core.Path.{ap}
 use Rattle.host.specs.Numbers.{reported}
-use Rattle.pausing.specs.Pausing.{stepsIn, rowsIn}
+use Rattle.pausing.specs.Pausing.{stepsTold, rowsTold}
 use borrow.Author.Needs.{needs}
 use Rattle.pausing.proofs.add_up.Statement.{statement}
 use Rattle.pausing.proofs.add_up.Tie as tie
@@ -46,7 +46,7 @@ element-write-report-3 c = search needs
 returns : tie.Need-returns
 returns c =
     let a = (c .before .before .before .before .before .before .before) .args in
-    ap (λ (w : ℕ). reported (stepsIn (a .first .now) + stepsIn (a .second .now)) (rowsIn (a .first .now) + rowsIn (a .second .now)) w (a .report .now)) ((c .whole-end) .ensures)
+    ap (λ (w : ℕ). reported (stepsTold (a .first .now) + stepsTold (a .second .now)) (rowsTold (a .first .now) + rowsTold (a .second .now)) w (a .report .now)) ((c .whole-end) .ensures)
 
 pub add-up-spec : {M : Type 1} → statement M
 add-up-spec =
