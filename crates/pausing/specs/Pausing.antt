@@ -68,7 +68,7 @@ jtStepNOn services a b state rows one two report =
     let first = jtStepN services a state rows one in
     asOne report first (jtStepN services b (first .state) (restOf first) two)
 
--- and as many calls as one likes: one for each number of the list, and one of no steps at last. `blank` is the report that each but the last is lent, `report` the last one's and the whole's
+-- and as many calls as one likes: one for each number of the list, and one of no steps at last. Each is lent three words of its own, `report` are those that the whole is told in
 abbrev pub blank : List ℕ
 blank = 0 ∷ 0 ∷ 0 ∷ []
 
