@@ -432,14 +432,18 @@ static void pause_at(const struct start *s, double later, uint64_t allowance, ui
     run_free(paused);
 }
 
+/* Allowances from 0 to 11 before the pause and after it. */
+static void pause_between(struct start *s, double early, double later) {
+    s->until = early;
+    for (uint64_t steps = 0; steps < 12 * 12; steps++)
+        pause_at(s, later, steps / 12, steps % 12);
+}
+
 static void pause_at_each(struct start *s, const double *clocks, size_t len) {
     s->timed = 1;
-    for (size_t i = 0; i < len; i++)
-        for (size_t k = i; k < len; k++)
-            for (uint64_t steps = 0; steps <= 143; steps++) {
-                s->until = clocks[i];
-                pause_at(s, clocks[k], steps / 12, steps % 12);
-            }
+    for (size_t i = 0; i < len * len; i++)
+        if (i / len <= i % len)
+            pause_between(s, clocks[i / len], clocks[i % len]);
 }
 
 /* With room for all rows, and with room for two: 13 before the pause, at it and after it. */
