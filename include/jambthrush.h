@@ -24,8 +24,9 @@
  *
  * Running on. A run may be cut in parts: a steps and then b more, with the same `services` and with `rows` lent from behind the
  * first part's rows on, are one call with a + b, in state, rows, steps and answer. The answer of the whole is the first part's
- * where that is a refusal, else the second's: asked for no steps, the second part answers 0. docs/PAUSING.md has this for
- * jt_step_until too, and a run that is stored in a file and goes on in another process.
+ * where that is a refusal, else the second's: asked for no steps, a second part answers 0, but for JT_BAD_STATE, which comes
+ * first in every call. docs/PAUSING.md has this for jt_step_until too, and a run that is stored in a file and goes on in another
+ * process.
  *
  * Memory. A slice is a pointer and a length in elements, aligned as its type asks. A pointer may be NULL where the length is
  * 0. `report`, `count` and `time` point to memory of the size shown. What a call writes (a state that is not const, `rows`,
