@@ -25,7 +25,9 @@ use Rattle.table.specs.Readers.{rowOf, idIn, named, kindOf}
 use Rattle.table.specs.Passed.{connectorAt, couplingAt, couplingOf, models-long, connectors-long, couplings-long, connectors-read, couplings-read, coupling-is-at, id-read, parent-read, kind-named, coupled-read, sizes}
 use Rattle.table.specs.Rows.{row-cell}
 use Rattle.table.specs.Judging.{inputIn, outputIn, innerIn}
-use Rattle.selection.specs.Selecting.{connects, isInput, isOutput, isInternal, isComponent, isFree, hasId, rowsIn}
+use Rattle.selection.specs.declared.Target.{Target}
+use Rattle.selection.specs.declared.Link.{Link}
+use Rattle.selection.specs.Selecting.{connects, isInput, isOutput, isInternal, isComponent, isFree, hasId, rowsIn, Finds}
 use Rattle.selection.specs.Selecting as Selecting
 use Rattle.selection.specs.SelectingLaws.{couplingBy}
 use Rattle.selection.specs.Selected.{leadsTo, id-is, connected-are, inputs-are, outputs-are, internals-are}
@@ -241,12 +243,12 @@ module _ (state : List ℕ) (inside : Inside state) where
       row-search isFree (λ j. isParentless (rowAt (tableIn state) j .parent))
       (λ k. ap isParentless (sym (parent-read (modelsIn state) (connectorsIn state) (couplingsIn state) (tableIn state) (inside .passes) k)))
 
-  pub connector-search : (test : List ℕ → ℕ → Bool) (start : ℕ)
-      → firstFrom (test (lentConnectors state)) start (Selecting.connectorsIn (lentConnectors state) - start)
-      ≡ firstFrom (test (connectorsIn state)) start (length (tableIn state .connectors) - start)
-  connector-search test start =
-      ap (λ (words : List ℕ). firstFrom (test words) start (Selecting.connectorsIn words - start)) (connectors-part state)
-      ∙ ap (λ (n : ℕ). firstFrom (test (connectorsIn state)) start (n - start)) connectors-whole
+  pub connector-finds : (test : List ℕ → ℕ → Bool) (lead : List ℕ → ℕ → Target) (looked : ℕ) (r : Link) (after : ℕ)
+      → Finds (test (lentConnectors state)) (lead (lentConnectors state)) (Selecting.connectorsIn (lentConnectors state)) looked r after
+      → Finds (test (connectorsIn state)) (lead (connectorsIn state)) (length (tableIn state .connectors)) looked r after
+  connector-finds test lead looked r after h =
+      subst (λ (n : ℕ). Finds (test (connectorsIn state)) (lead (connectorsIn state)) n looked r after) connectors-whole
+      (subst (λ (words : List ℕ). Finds (test words) (lead words) (Selecting.connectorsIn words) looked r after) (connectors-part state) h)
 
   pub coupling-search : (test : List ℕ → ℕ → Bool) (start : ℕ)
       → firstFrom (test (lentCouplings state)) start (Selecting.couplingsIn (lentCouplings state) - start)

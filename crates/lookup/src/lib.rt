@@ -1,4 +1,5 @@
 // The table inside a lent state: its rows, couplings and connectors, looked up where they stand. Layout: docs/LAYOUT.md.
+use selection::Link;
 use selection::Target;
 use table::Kind;
 use words::Found;
@@ -10,9 +11,8 @@ ghost use Rattle.rules.specs.Base.{those};
 ghost use Rattle.rules.specs.Table.{idAt, kindAt, rowAt, isCoupled, isParent, isParentless, components};
 ghost use Rattle.words.specs.Search.{firstFrom};
 ghost use Rattle.table.specs.Readers.{named};
-ghost use Rattle.selection.specs.Selecting.{connects, isInput, isOutput, isInternal};
+ghost use Rattle.selection.specs.Selecting.{connects, isInput, isOutput, isInternal, leadAt, Finds};
 ghost use Rattle.selection.specs.Selected.{leadsTo};
-ghost use Rattle.table.specs.Passed.{connectorAt};
 ghost use Rattle.lookup.specs.Inside.{Inside, tailAt, tableIn, connectorsIn, couplingsIn, foundIn};
 
 // How many model rows the table has.
@@ -158,22 +158,12 @@ pub fn coupling_target(state: &[u64], coupling: usize) -> Target
     selection::coupling_target(&state[start..end], coupling)
 }
 
-// The first connector from an id and port, from a place on, or Nothing.
-pub fn next_connector(state: &[u64], from: usize, source: u64, port: u64) -> Found
+// The next connector from an id and port, with where it leads, or Nothing. `looked` is how many of them have been looked at.
+pub fn next_connector(state: &[u64], looked: &mut usize, source: u64, port: u64) -> Link
     requires { ⌜ Inside (now state) ⌝ }
-    ensures { λ r. ⌜ r ≡ firstFrom (connects (connectorsIn (now (state .entry))) source port) from (length (tableIn (now (state .entry)) .connectors) - from) ⌝ }
+    ensures { λ r. ⌜ Finds (connects (connectorsIn (now (state .entry))) source port) (leadAt (connectorsIn (now (state .entry)))) (length (tableIn (now (state .entry)) .connectors)) (now (looked .entry)) r (now (looked .exit)) ⌝ }
 {
     let start = state[0] as usize * 10 + 3;
     let end = start + state[1] as usize * 4;
-    selection::next_connector(&state[start..end], from, source, port)
-}
-
-// Where a connector leads.
-pub fn connector_target(state: &[u64], connector: usize) -> Target
-    requires { ⌜ Inside (now state) ⌝ }
-    ensures { λ r. ⌜ (r .id ≡ connectorAt (connectorsIn (now (state .entry))) connector .target) × (r .port ≡ connectorAt (connectorsIn (now (state .entry))) connector .targetPort) ⌝ }
-{
-    let start = state[0] as usize * 10 + 3;
-    let end = start + state[1] as usize * 4;
-    selection::connector_target(&state[start..end], connector)
+    selection::next_connector(&state[start..end], looked, source, port)
 }

@@ -170,9 +170,6 @@ module _ (models connectors couplings : List ℕ) (t : Table) (h : intake (lent 
   pub id-is : (id k : ℕ) → eqb (idAt t k) id ≡ hasId models id k
   id-is id k = ap (λ (n : ℕ). eqb n id) (id-read models connectors couplings t h k)
 
--- ---- what the readers answer is where the rules' connector or coupling leads
-pub connector-leads : (connectors : List ℕ) (k : ℕ) → (targetIn 4 2 connectors k .id ≡ connectorAt connectors k .target) × (targetIn 4 2 connectors k .port ≡ connectorAt connectors k .targetPort)
-connector-leads connectors k = (refl, refl)
-
+-- ---- what the reader answers is where the rules' coupling leads
 pub coupling-leads : (couplings : List ℕ) (k : ℕ) → (targetIn 6 4 couplings k .id ≡ leadsTo couplings k .target) × (targetIn 6 4 couplings k .port ≡ leadsTo couplings k .port)
 coupling-leads couplings k = (refl, refl)

@@ -1,33 +1,35 @@
 -- The tests of the words that the searches make are the rules' own. Assumes nothing.
 use Prim.Native.Nat.{ℕ, zero, suc, _+_, _-_, _*_, _/_, _%_, _≤_, _<_}
-use mathlib.Core.Path.{_≡_, refl, sym, _∙_}
+use mathlib.Core.Path.{_≡_, refl, sym, ap, _∙_}
 use mathlib.Core.Bool.{Bool, true, false, _&&_, not}
 use mathlib.Core.List.{List}
 use mathlib.Core.Option.{Option, none, some}
 use native.Mathlib.Omega.{arith}
 use native.Mathlib.Nat.{add-assoc, div-one, div-lt-iff-lt-mul, div-mul-le-self, mod-lt, mul-le-mul-right}
 use borrow.Author.Tests.{eqb-true}
-use lib.ListN.{length, getD, drop-of-length-le}
+use lib.ListN.{length, getD, take, drop, drop-of-length-le}
 use lib.Seq.{take-nil}
 use lib.Dec.{eqb, lit<}
 use Rattle.rules.specs.Base.{if_then_else_}
 use Rattle.rules.specs.Table.{Coupling, externalInput, externalOutput, internalCoupling, inputOf, outputOf, internalOf, isParent, isParentless}
-use Rattle.rules.specs.Layout.{cell, modelWidth, connectorWidth, couplingWidth, couplingIn, isGiven}
+use Rattle.rules.specs.Layout.{cell, modelWidth, couplingWidth, couplingIn, isGiven}
 use Rattle.words.specs.declared.Cell.{Cell}
 use Rattle.words.specs.declared.Key.{Key}
 use Rattle.words.specs.Search.{cellOf, firstFrom, matches, inRow, nextRow}
 use Rattle.words.specs.SearchLaws.{cells-inside, next-row-first, first-ext}
 use Rattle.table.specs.Readers.{rowOf}
+use Rattle.table.specs.Passed.{connectorOf}
 use Rattle.table.specs.Rows.{row-cell}
-use Rattle.selection.specs.Selecting.{rowsIn, connectorsIn, couplingsIn, connects, isSome, chosenOf, isInput, isOutput, isInternal, isComponent, isFree, hasId, targetIn}
+use Rattle.selection.specs.declared.Seen.{Seen}
+use Rattle.selection.specs.Selecting.{rowsIn, couplingsIn, comesFrom, connects, leadOf, leadAt, seenOf, isSome, chosenOf, isInput, isOutput, isInternal, isComponent, isFree, hasId, targetIn}
 
 -- ---- what the private functions make and test
 abbrev cellWith : ℕ → ℕ → Cell
 cellWith at value = record { at = at; value = value }
 
--- an id in the cell 0, and a word in the cell `at`, which is said again
-abbrev pub pairKey : ℕ → ℕ → ℕ → Key
-pairKey id at word = record { first = cellWith 0 id; second = cellWith at word; third = cellWith at word; fourth = cellWith at word }
+-- an id in the cell 0, said four times
+abbrev idKey : ℕ → Key
+idKey id = record { first = cellWith 0 id; second = cellWith 0 id; third = cellWith 0 id; fourth = cellWith 0 id }
 
 abbrev pub couplingKey : ℕ → ℕ → ℕ → ℕ → ℕ → Key
 couplingKey kind owner at source port =
@@ -62,22 +64,25 @@ module _ (key : Key) (width : ℕ) (inside : inRow key width ≡ true) where
       next-row-first key width from (length words / width) words inside (omega arith)
       ∙ first-ext _ _ from (length words / width - from) (λ k h b. sym (key-cells words k) ∙ same (rowOf width words k))
 
--- ---- connectors and ids
+-- ---- connectors: what is seen in the words from the start of the row k to the next row's
+pub connector-seen : (words : List ℕ) (source port k start : ℕ) → start ≡ k * 4 → (seen : Seen)
+    → (let c = connectorOf (take (start + 4 - start) (drop start words)) in seen ≡ seenOf (comesFrom source port c) (leadOf c))
+    → seen ≡ seenOf (connects words source port k) (leadAt words k)
+connector-seen words source port k start begins seen is =
+    let four : start + 4 - start ≡ 4 = omega arith in
+    let row : take (start + 4 - start) (drop start words) ≡ rowOf 4 words k = λ i. take (four i) (drop (begins i) words) in
+    is ∙ ap (λ row. seenOf (comesFrom source port (connectorOf row)) (leadOf (connectorOf row))) row
+
+-- ---- ids
 and-again : (a b : Bool) → a && b && b ≡ a && b
 and-again true true = refl
 and-again true false = refl
 and-again false b = refl
 
-module _ (words : List ℕ) (from : ℕ) where
-  pub connector-search : (source port : ℕ) → nextRow (pairKey source 1 port) connectorWidth from (connectorsIn words) words ≡ firstFrom (connects words source port) from (connectorsIn words - from)
-  connector-search source port =
-      search-is (pairKey source 1 port) connectorWidth refl (λ row. eqb (cell row 0) source && eqb (cell row 1) port)
-      (λ row. let s = eqb (cell row 0) source in let p = eqb (cell row 1) port in and-again (s && p) p ∙ and-again s p) words from
-
-  pub id-search : (id : ℕ) → nextRow (pairKey id 0 id) modelWidth from (rowsIn words) words ≡ firstFrom (hasId words id) from (rowsIn words - from)
-  id-search id =
-      search-is (pairKey id 0 id) modelWidth refl (λ row. eqb (cell row 0) id)
-      (λ row. let s = eqb (cell row 0) id in and-again (s && s) s ∙ and-again s s ∙ and-again true s) words from
+pub id-search : (words : List ℕ) (from id : ℕ) → nextRow (idKey id) modelWidth from (rowsIn words) words ≡ firstFrom (hasId words id) from (rowsIn words - from)
+id-search words from id =
+    search-is (idKey id) modelWidth refl (λ row. eqb (cell row 0) id)
+    (λ row. let s = eqb (cell row 0) id in and-again (s && s) s ∙ and-again s s ∙ and-again true s) words from
 
 -- ---- couplings: a kind is one of the three or none
 pub kinds : (x : ℕ) (P : Bool → Bool → Bool → Type 0) → P true false false → P false true false → P false false true → P false false false → P (eqb x 1) (eqb x 2) (eqb x 3)

@@ -1,6 +1,6 @@
 -- One message along every connector that matches, in order, as a loop sends it. Assumes nothing.
 use Prim.Native.Nat.{ℕ, _+_, _-_, _*_, _≤_, _<_}
-use mathlib.Core.Path.{_≡_, refl, sym, ap, _∙_}
+use mathlib.Core.Path.{_≡_, refl, sym, ap, subst, _∙_}
 use mathlib.Core.Bool.{Bool}
 use mathlib.Core.Logic.{_⊎_, inl, inr}
 use mathlib.Core.List.{List, [], _∷_, _++_, map, map-map}
@@ -18,12 +18,15 @@ use Rattle.rules.specs.Base.{Outcome, refused, done, _>>=_, each, those, from}
 use Rattle.rules.specs.Sizes.{mostActive}
 use Rattle.rules.specs.Table.{Table, Connector, idAt, connected}
 use Rattle.rules.specs.Step.{Out, along, send}
-use Rattle.words.specs.declared.Found.{Found}
 use Rattle.words.specs.declared.Found.the-variants.{At, Nothing}
 use Rattle.words.specs.Search.{firstFrom}
 use Rattle.words.specs.SearchLaws.{search-end, first-at}
 use Rattle.table.specs.Passed.{connectorAt}
-use Rattle.selection.specs.Selecting.{connects}
+use Rattle.selection.specs.declared.Target.{Target}
+use Rattle.selection.specs.declared.Link.{Link}
+use Rattle.selection.specs.declared.Link.the-variants as link
+use Rattle.selection.specs.Selecting.{connects, leadAt, Finds}
+use Rattle.selection.specs.Looking.{finds-none, finds-at}
 use Rattle.selection.specs.Selected.{sweep-on, sweep-end, each-map}
 use Rattle.lookup.specs.Inside.{Inside, tableIn, connectorsIn}
 use Rattle.lookup.specs.InsideLaws.{connected-in}
@@ -94,10 +97,18 @@ module _ (state : List ℕ) (clock : Float) (row : ℕ) (m : Out) where
       ∙ each-map one (λ k. go (connectorAt (connectorsIn state) k)) (those matches (from 0 n)) ms
       ∙ ap (λ (k : ℕ). each sendAt (those matches (from 0 k)) ms) (sym (sub-zero n))
 
-  -- what a search for the row's id finds
-  pub found-along : (id k : ℕ) (r f : Found) → id ≡ idAt (tableIn state) row → r ≡ firstFrom (connects (connectorsIn state) id (m .port)) k (length (tableIn state .connectors) - k) → r ≡ f
-      → firstFrom matches k (length (tableIn state .connectors) - k) ≡ f
-  found-along id k r f same search is = ap (λ (id : ℕ). firstFrom (connects (connectorsIn state) id (m .port)) k (length (tableIn state .connectors) - k)) (sym same) ∙ sym search ∙ is
+  -- what a search for the row's id answers, and how many have been looked at then
+  module _ (id looked : ℕ) (r : Link) (after : ℕ) (same : id ≡ idAt (tableIn state) row)
+      (finds : Finds (connects (connectorsIn state) id (m .port)) (leadAt (connectorsIn state)) (length (tableIn state .connectors)) looked r after) where
+    finds-along : Finds matches (leadAt (connectorsIn state)) (length (tableIn state .connectors)) looked r after
+    finds-along = subst (λ (id : ℕ). Finds (connects (connectorsIn state) id (m .port)) (leadAt (connectorsIn state)) (length (tableIn state .connectors)) looked r after) same finds
+
+    pub none-along : r ≡ link.Nothing → firstFrom matches looked (length (tableIn state .connectors) - looked) ≡ Nothing
+    none-along = finds-none matches (leadAt (connectorsIn state)) (length (tableIn state .connectors)) looked r after finds-along
+
+    pub one-along : (j : ℕ) (to : Target) → r ≡ link.At j to
+        → (firstFrom matches looked (length (tableIn state .connectors) - looked) ≡ At j) × (to ≡ leadAt (connectorsIn state) j) × (after ≡ j + 1)
+    one-along = finds-at matches (leadAt (connectorsIn state)) (length (tableIn state .connectors)) looked r after finds-along
 
   pub found-bounds : (k j : ℕ) → firstFrom matches k (length (tableIn state .connectors) - k) ≡ At j → (k ≤ j) × (j < length (tableIn state .connectors))
   found-bounds k j found = let first = first-at matches k (length (tableIn state .connectors) - k) j found in (first .0, omega arith)
@@ -131,26 +142,28 @@ module _ (state : List ℕ) (clock : Float) (row : ℕ) (m : Out) where
             sending-stops (tableIn state) active mem₀ sendAlong (sendFrom k) sent mem s (sendAt j) (sendFrom (j + 1)) first
             (put.Refused NoMessageRoom) mem (no-room active sent mem (along (tableIn state) clock row m (connectorAt (connectorsIn state) j)) full) NoMessageRoom refl
 
-        pub along-on : (id target port time : ℕ) (after : List ℕ)
+        pub along-on : (id : ℕ) (to : Target) (time looked : ℕ) (after : List ℕ)
             → id ≡ idAt (tableIn state) row
-            → (target ≡ connectorAt (connectorsIn state) j .target) × (port ≡ connectorAt (connectorsIn state) j .targetPort)
+            → to ≡ leadAt (connectorsIn state) j
             → time ≡ toBits binary64 clock
-            → after ≡ replaced (active + sent * 6) 6 (id ∷ m .port ∷ target ∷ port ∷ time ∷ m .content ∷ []) mem
+            → looked ≡ j + 1
+            → after ≡ replaced (active + sent * 6) 6 (id ∷ m .port ∷ to .id ∷ to .port ∷ time ∷ m .content ∷ []) mem
             → sent < 256 → T (isTime clock) → endOf (tableIn state) ≤ active → active + 1536 ≤ length mem₀
-            → Along (j + 1) (sent + 1) after
-        along-on id target port time after same-id same same-time written free is-time past room =
-            let words = id ∷ m .port ∷ target ∷ port ∷ time ∷ m .content ∷ [] in
+            → Along looked (sent + 1) after
+        along-on id to time looked after same-id same same-time next written free is-time past room =
+            let words = id ∷ m .port ∷ to .id ∷ to .port ∷ time ∷ m .content ∷ [] in
             let message = along (tableIn state) clock row m (connectorAt (connectorsIn state) j) in
             let stamp : ofBits binary64 time ≡ clock = ap (ofBits binary64) same-time ∙ ofBits-toBits binary64 clock (time-fits clock is-time) in
             let is : messageIn 0 words 0 ≡ message = λ i. record {
               «source_id» = same-id i;
               «source_port» = m .port;
-              «target_id» = same .0 i;
-              «target_port» = same .1 i;
+              «target_id» = same i .id;
+              «target_port» = same i .port;
               time = stamp i;
               content = m .content;
             } in
             let room-here : active + 1536 ≤ length mem = omega (arith, s .frame .long) in
-            sending-on (tableIn state) active mem₀ sendAlong (sendFrom k) sent mem s (sendAt j) (sendFrom (j + 1)) first
+            subst (λ (k : ℕ). Along k (sent + 1) after) (sym next)
+            (sending-on (tableIn state) active mem₀ sendAlong (sendFrom k) sent mem s (sendAt j) (sendFrom (j + 1)) first
             (put.Out (sent + 1)) after (has-room active sent mem message words after refl is written free room-here) (sent + 1) refl
-            (in-frame active sent mem message words after refl is written free room-here (tableIn state) past)
+            (in-frame active sent mem message words after refl is written free room-here (tableIn state) past))

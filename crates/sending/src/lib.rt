@@ -1,8 +1,8 @@
 // Messages put out by a model without parent go along every connector that matches (01, "The step (000)", 4).
 use memory::Put;
 use rules::Refusal;
+use selection::Link;
 use selection::Target;
-use words::Found;
 ghost use mathlib.Core.Path.{_≡_};
 ghost use Prim.Native.Nat.{_+_, _≤_, _<_};
 ghost use mathlib.Core.List.{[], _∷_};
@@ -39,7 +39,7 @@ fn write_message(
     mem[at + 5] = content;
 }
 
-// One message along every connector that matches; the 257th active is 8.
+// One message along every connector that matches; the 257th active is 8. Each connector is looked at once at most.
 fn send_one(
     state: &[u64],
     mem: &mut [u64],
@@ -58,18 +58,16 @@ fn send_one(
     let end = lookup::connector_count(state);
     let time = times::bits_of(clock);
     let mut sent = count;
-    let mut from = 0;
-    while from < end {
-        match lookup::next_connector(state, from, id, port) {
-            Found::Nothing => return Put::Out(sent),
-            Found::At(connector) => {
+    let mut looked = 0;
+    while looked < end {
+        match lookup::next_connector(state, &mut looked, id, port) {
+            Link::Nothing => return Put::Out(sent),
+            Link::At(_, target) => {
                 if sent == 256 {
                     return Put::Refused(Refusal::NoMessageRoom);
                 }
-                let target = lookup::connector_target(state, connector);
                 write_message(mem, active + sent * 6, id, port, target, time, content);
                 sent += 1;
-                from = connector + 1;
             }
         }
     }

@@ -1,7 +1,7 @@
 -- `lookup::next_connector` meets its contract. The connectors' words are the lent part. Assumes nothing.
 use borrow.Author.Needs.{needs}
-use Rattle.lookup.specs.InsideLaws.{connector-search}
-use Rattle.selection.specs.Selecting.{connects}
+use Rattle.selection.specs.Selecting.{connects, leadAt}
+use Rattle.lookup.specs.InsideLaws.{connector-finds}
 use Rattle.lookup.proofs.next_connector.Statement.{statement}
 use Rattle.lookup.proofs.next_connector.Tie as tie
 
@@ -40,9 +40,8 @@ next-connector-requires c κs = search needs
 
 returns : tie.Need-returns
 returns c =
-    let start = c .before .before .before .before .before in
-    let a = start .args in
-    rw (c .next-connector .ensures) (connector-search (a .state .now) (start .pre) (λ words. connects words (a .source) (a .port)) (a .from))
+    let a = c .before .before .before .before .before .before .args in
+    connector-finds (a .state .now) (c .before .before .before .before .before .before .pre) (λ words. connects words (a .source) (a .port)) leadAt (a .looked .now) _ _ (c .next-connector .ensures)
 
 pub next-connector-spec : {M : Type 1} → statement M
 next-connector-spec =

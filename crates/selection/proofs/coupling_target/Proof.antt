@@ -1,23 +1,20 @@
--- `selection::target_at` meets its contract. Where the row begins within the words its cells' places fit. Assumes nothing.
+-- `selection::coupling_target` meets its contract. Where the row begins within the words its cells' places fit. Assumes nothing.
 use borrow.Author.Needs.{needs}
 use mathlib.Core.Path.{_∙_}
 use Prim.Native.Nat.{_*_, _≤_}
 use native.Mathlib.Omega.{arith}
 use lib.ListN.{length}
 use Rattle.selection.specs.SelectingLaws.{starts-within, target-read, target-past}
-use Rattle.selection.proofs.target_at.Statement.{statement}
-use Rattle.selection.proofs.target_at.Tie as tie
+use Rattle.selection.proofs.coupling_target.Statement.{statement}
+use Rattle.selection.proofs.coupling_target.Tie as tie
 
-begins : (c : tie.Else1) → c .before .before .args .row * c .before .before .args .width ≤ length (c .before .before .args .words .now)
-begins c = let a = c .before .before .args in starts-within (a .width) (a .at) (a .words .now) (a .row) (omega arith)
-
-div-if1 : tie.Need-div-if1
-div-if1 c = search needs
+begins : (c : tie.Else1) → c .before .before .args .row * 6 ≤ length (c .before .before .args .couplings .now)
+begins c = let a = c .before .before .args in starts-within 6 4 (a .couplings .now) (a .row) (omega arith)
 
 returns : tie.Need-returns
 returns c =
     let a = c .before .before .args in
-    target-past (a .width) (a .at) (a .words .now) (a .row) (omega arith) (c .if1 .taken)
+    target-past 6 4 (a .couplings .now) (a .row) (omega arith) (c .if1 .taken)
 
 mul-place : tie.Need-mul-place
 mul-place c = omega (arith, begins c)
@@ -38,13 +35,12 @@ returns-2 : tie.Need-returns-2
 returns-2 c =
     let a = c .before .before .before .before .args in
     (λ i. record { id = c .before .word-at .ensures i; port = c .word-at2 .ensures i })
-    ∙ target-read (a .width) (a .at) (a .words .now) (a .row) (omega arith)
+    ∙ target-read 6 4 (a .couplings .now) (a .row) (omega arith)
 
-pub target-at-spec : {M : Type 1} → statement M
-target-at-spec =
+pub coupling-target-spec : {M : Type 1} → statement M
+coupling-target-spec =
     tie.close
     (tie.spec
-    div-if1
     returns
     mul-place
     add-place
