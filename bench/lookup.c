@@ -420,7 +420,24 @@ static void tell_index(void) {
     tell_parts();
 }
 
-int main(void) {
+/* One workload by its places in `counts` and `match_names`, each build once: for a tool that counts instructions. */
+static int run_once(const char *count, const char *match) {
+    size_t n = strtoul(count, NULL, 10);
+    size_t m = strtoul(match, NULL, 10);
+    if (n >= COUNTS || m >= MATCHES)
+        return 2;
+    add_builds(MANY_STEPS, &by_step_n, n, m);
+    const struct figure *f = figure_at(MANY_STEPS, n, m);
+    if (f->count > 0) {
+        compare(f);
+        printf("%12zu %-16s %8zu", f->workload.connectors, match_name(f->workload), messages_a_step(f->workload));
+    }
+    return 0;
+}
+
+int main(int argc, char **argv) {
+    if (argc == 3)
+        return run_once(argv[1], argv[2]);
     add_all();
     compare_all();
     measure_all();
