@@ -1,4 +1,4 @@
-"""Tables for the differential runs that random ones seldom are: they multiply messages, fill queues, never end, or are large."""
+"""Tables for the differential runs that random ones seldom are: they multiply messages, fill queues, park, run on or are large."""
 from reading import OMITTED_CAPACITY, BatcherRow, Connector, CoupledRow, Coupling, ProcessorRow, StopwatchRow, Table
 from tables import depths
 
@@ -80,8 +80,38 @@ def full_table(random):
     return Table(rows, [Connector(1, 2, 99, 1)] * random.choice([0, 1, 4, 5]), couplings)
 
 
+def parked_table(random):
+    """Coupleds in one another; in each a batcher parks what it takes for a row beside it, for the next Coupled or for nobody."""
+    rows, couplings = chain(random, 4)
+    inner = rows[-1].id
+    for coupled in range(1, inner + 1):
+        feeder, taker = 10 * coupled, 10 * coupled + 1
+        rows += [BatcherRow(feeder, coupled, 1, 2, random.choice([1, 1, 1, 2]), random.choice([0.0, 1.0])),
+                 parked_taker(random, taker, coupled)]
+        inside = [coupled + 1] if coupled < inner else []
+        target, port = random.choice([taker, taker, taker, 98] + inside), random.choice([1] * 9 + [9])
+        ways = [Coupling(coupled, 'input', None, 1, feeder, 1), Coupling(coupled, 'internal', feeder, 2, target, port),
+                Coupling(coupled, 'internal', taker, 2, random.choice([feeder, 98]), 1),
+                Coupling(coupled, 'output', random.choice([feeder, taker] + inside), 2, None, 2)]
+        ways += [Coupling(coupled, 'internal', component, 2, taker, 1) for component in inside]
+        shares = [1.0 if coupled == inner else 0.5, 0.9, 0.15, 0.5, 0.4]
+        couplings += [way for way, share in zip(ways, shares) if random.random() < share]
+    rows.append(keeper(random, 50, None))
+    return Table(rows, [Connector(1, 2, random.choice([1, 50, 99]), 1)] * random.choice([0, 1]), couplings)
+
+
+def parked_taker(random, identity, parent):
+    """A row for which messages are parked."""
+    kind = random.random()
+    if kind < 0.5:
+        return ProcessorRow(identity, parent, 1, 2, random.choice([0, 1, 2, OMITTED_CAPACITY, OMITTED_CAPACITY]))
+    if kind < 0.8:
+        return BatcherRow(identity, parent, 1, 2, random.choice([1, 2, 3]), random.choice([0.0, 1.0]))
+    return StopwatchRow(identity, parent, *random.choice([(1, 2, 3), (3, 1, 2), (2, 3, 1)]), 2, random.random() < 0.5)
+
+
 def ring_row(random, identity, parent):
-    """A row that hands on what it takes. In a Coupled most are processors: what a batcher parks may wait for ever."""
+    """A row that hands on what it takes. In a Coupled most are processors: what a batcher parks, the Rust may leave there (A3)."""
     if random.random() < (0.65 if parent is None else 0.93):
         return ProcessorRow(identity, parent, 1, 2, random.choice([1, 2, 5, OMITTED_CAPACITY]))
     return BatcherRow(identity, parent, 1, 2, random.choice([1, 2, 3]), random.choice([0.1, 0.3, 1.0, 2.5]))

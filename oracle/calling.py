@@ -4,6 +4,7 @@ The C calls (calls.c) must answer as the reading does, always. The Rust is asked
 a time that is refused, and of a refused run for the steps before the refused one. A step refused with 5 or 6 is asked too, one
 with 9 in half of the cases; the Rust keeps such a step's work, so it is then asked no more. Where the refusal is met inside a
 component's internal event, the Rust swallows it (docs/DIFFERENCES.md, item 20), and what it answers is counted and not compared.
+From the first step in which a Coupled has an internal event by A3 alone (docs/DIFFERENCES.md, item 38) it is asked no more either.
 """
 import collections
 import itertools
@@ -48,6 +49,8 @@ class Case:
         self.asks = True                    # whether the oracle can still be asked
         self.refused_step = None            # the refusal of the step with which its part ends
         self.swallowed = False              # whether the Rust swallows that one
+        self.cut = False                    # whether its part ends where A3 shows
+        self.steps_asked = self.answers_asked = 0
         self.slices = None                  # the table's words in the state; None if there is no state in the buffer
         self.length = 0                     # of the state buffer
         self.lent = None                    # of what the next call is lent of it, where that is less
@@ -114,6 +117,7 @@ class Case:
         if self.asks:
             self.asked.append(line)
             self.answers.append(f'> {line}\n{answer}')
+            self.answers_asked += answer != ''
 
     def call(self, line, name, refusal, head, body):
         """A call and what the C calls must answer."""
@@ -240,6 +244,7 @@ class Case:
         if self.refused_by(self.check_state):
             self.call(line, name, 20, ' steps 0 rows 0 end 3', 'same\n')
             return None
+        before = self.simulation.kept()
         ran = getattr(self.simulation, name)(*arguments, self.room // MESSAGE_WORDS)
         self.steps += ran.steps
         self.longest = max(self.longest, ran.steps)
@@ -247,9 +252,27 @@ class Case:
         rows = text_of(message_lines(ran.rows))
         shown = rows + self.shown() if ran.steps or not ran.refusal else 'same\n'
         self.call(line, name, ran.refusal or 0, head, shown)
-        if self.asks:
+        if self.asks and self.simulation.parted:
+            self.ask_up_to_parting(before, name, arguments)
+        elif self.asks:
             self.ask_run(name, arguments, ran, shown)
         return ran
+
+    def ask_up_to_parting(self, before, name, arguments):
+        """The oracle's part of a run in which A3 shows: the steps before. It is then asked no more."""
+        simulation = self.simulation
+        after = simulation.kept()
+        simulation.go_back(before)
+        simulation.stops_where_parted = True
+        ran = getattr(simulation, name)(*arguments)
+        if ran.steps:
+            shown = message_lines(ran.rows) + simulation_lines(simulation)
+            self.ask(f'step_n {ran.steps}', f'returned {len(ran.rows)} messages\n{text_of(shown)}')
+            self.steps_asked += ran.steps
+        simulation.stops_where_parted = False
+        simulation.go_back(after)
+        self.cut = True
+        self.asks = False
 
     def ask_run(self, name, arguments, ran, shown):
         """The oracle's part of a run: its completed steps, then often the step that is refused."""
@@ -261,6 +284,7 @@ class Case:
             line = in_words((name,) + arguments)
         if ran.steps or ran.end != 'Refused':
             self.ask(line, f'returned {len(ran.rows)} messages\n{shown}')
+            self.steps_asked += ran.steps
         if ran.refusal in ASK_REFUSED and self.random.random() < ASK_REFUSED[ran.refusal]:
             self.refused_step = ran.refusal
             self.swallowed = self.simulation.refused_inside()
@@ -269,14 +293,9 @@ class Case:
 
     def foresee(self, name, *arguments):
         """What a run would answer with any room. Nothing is changed by it."""
-        simulation = self.simulation
-        kept = [model.saved() for model in simulation.models], simulation.active, simulation.clock, simulation.place
-        watched = simulation.seen.copy(), simulation.deepest, simulation.furthest
-        ran = getattr(simulation, name)(*arguments)
-        saved, simulation.active, simulation.clock, simulation.place = kept
-        simulation.seen, simulation.deepest, simulation.furthest = watched
-        for model, was in zip(simulation.models, saved):
-            model.restore(was)
+        kept = self.simulation.kept()
+        ran = getattr(self.simulation, name)(*arguments)
+        self.simulation.go_back(kept)
         return ran
 
 

@@ -4,8 +4,9 @@
     compare.py ORACLE [FIRST] [COUNT]      the scripts FIRST and on, COUNT of them (0 and 300 if left out)
 
 Compared, bit for bit: what a call returned, clock, place, active messages and every model. Each script runs
-twice, with every run as single steps and then call by call, up to its first refusal; with the refusal's error
-for 5, 6 and 9. With COUNT 1 the script and the oracle's answers are printed too. Ends with 1 if any differs.
+twice, with every run as single steps and then call by call, up to its first refusal, with the refusal's error
+for 5, 6 and 9; or up to the step in which A3 shows, which the Rust does not have (README.md says where that is).
+With COUNT 1 the script and the oracle's answers are printed too. Ends with 1 if any differs.
 """
 import collections
 import sys
@@ -22,9 +23,10 @@ def count_script(count, script):
     count['scripts'] += 1
     count['calls'] += len(script.calls)
     count['calls that end before an idle step'] += script.idle_ends
+    count['scripts with a Coupled'] += script.simulation.has_coupled
     count['steps'] += script.steps
     count[f'deepest row that took a message: {script.simulation.deepest}'] += 1
-    count['ends: none refused' if script.refusal is None else f'ends: refusal {script.refusal}'] += 1
+    count[f'ends: {script.ends()}'] += 1
     for what, times in script.simulation.seen.items():
         count[f'in all: {what}'] += times
 

@@ -193,6 +193,7 @@ class Counts:
         self.by['cases with refusal'].update(set(case.refusals) or ['none'])
         self.by['last refusal'][case.refusals[-1] if case.refusals else 'none'] += 1
         self.by['deepest level that took a message'][case.simulation.deepest] += 1
+        self.add_parting(case)
         numbers = (case.steps, case.longest, case.fullest, case.most_active, case.most_parked)
         for (name, bounds), value in zip(GROUPS.items(), numbers):
             self.by[name][bounds[-1] if value >= bounds[-1] else max(bound for bound in bounds if bound <= value)] += 1
@@ -200,6 +201,20 @@ class Counts:
         self.total['calls'] += sum(case.calls.values())
         self.total['steps'] += case.steps
         self.total['longest run'] = max(self.total['longest run'], case.longest)
+        self.total['steps asked of the oracle'] += case.steps_asked
+        self.total['answers of the oracle'] += case.answers_asked
+
+    def add_parting(self, case):
+        """Counts whether the case leaves the Rust where A3 shows, and what was parked there."""
+        if case.cut:
+            where = 'cut where A3 shows'
+        elif case.simulation.parted:
+            where = 'A3 shows after the oracle\'s part'
+        else:
+            where = 'A3 does not show'
+        if case.simulation.has_coupled:
+            self.by['cases with a Coupled'][where] += 1
+        self.by['cases with messages parked that A3 alone hands on'].update(case.simulation.freed.keys())
 
     def tell(self):
         """Prints all."""

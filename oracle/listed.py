@@ -2,7 +2,7 @@
 
 One row with small and odd fields; two and three rows by their ids, parents and kinds; every length of the three slices up to a few
 rows, and around the largest; every length of the state buffer; every length of the output; every word of a state, made odd; every
-short sequence of calls on the smallest tables.
+short sequence of calls on the smallest tables, and on the smallest in which messages are parked (A3).
 """
 import itertools
 import random
@@ -211,7 +211,7 @@ def words(lister):
 
 
 def sequences(lister):
-    """Every sequence of four calls on the smallest tables."""
+    """Every sequence of five calls on the smallest tables."""
     tables = [[ProcessorRow(1, None, 1, 2, capacity)] for capacity in (0, 1, 2)]
     tables += [[BatcherRow(1, None, 1, 2, maximum, time)] for maximum, time in ((1, 1.0), (2, 0.0), (2, 1.0), (3, 1.0))]
     tables += [[StopwatchRow(1, None, 1, 3, 2, 2, least)] for least in (True, False)]
@@ -232,12 +232,43 @@ def sequences(lister):
             yield case
 
 
+def parking_tables():
+    """C11 of 01 at every depth: a batcher in one to four Coupleds parks for a processor, for a batcher, for nobody, for both."""
+    processor, batcher = ProcessorRow(11, None, 1, 2, 1), BatcherRow(11, None, 1, 2, 2, 1.0)
+    ways = [([processor], [11]), ([batcher], [11]), ([], [98]), ([processor], [98]), ([processor], [98, 11])]
+    for depth, (beside, parks_for) in itertools.product(range(1, 5), ways):
+        rows = [CoupledRow(place, place - 1 or None) for place in range(1, depth + 1)]
+        rows += [BatcherRow(10, depth, 1, 2, 1, 0.0)] + [row._replace(parent=depth) for row in beside]
+        couplings = [Coupling(place, 'input', None, 1, place + 1 if place < depth else 10, 1) for place in range(1, depth + 1)]
+        couplings += [Coupling(depth, 'internal', 10, 2, target, 1) for target in parks_for]
+        couplings += [Coupling(place, 'output', place + 1 if place < depth else 11, 2, None, 2) for place in range(1, depth + 1)]
+        yield Table(rows, [Connector(1, 2, 99, 1)], couplings)
+
+
+def parkings(lister):
+    """Every sequence of four calls on these, each a case of its own: the Rust is asked up to where it parts."""
+    makes = [lambda case: case.inject(Message(0, 0, 1, 1, 0.0, 1)), lambda case: case.run('step'),
+             lambda case: case.run('step_until', case.simulation.clock + 1.0, 3)]
+    for table in parking_tables():
+        slices = table_words(table)
+        for calls in itertools.product(makes, repeat=4):
+            case = lister.case()
+            case.services([1.0, 0.0])
+            case.buffer(words_needed(*map(len, slices)))
+            case.table('post', slices)
+            case.inject(Message(0, 0, 1, 1, 0.0, 7))
+            for make in calls:
+                make(case)
+            case.status(1)
+            yield case
+
+
 def listed():
     """All of them, with their kinds."""
     lister = Lister()
     for makes in (one_row, few_rows, links, lengths):
         for case in lister.cases_of(makes()):
             yield makes.__name__, case
-    for make in (buffers, outputs, words, sequences):
+    for make in (buffers, outputs, words, sequences, parkings):
         for case in make(lister):
             yield make.__name__, case

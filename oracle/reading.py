@@ -1,7 +1,8 @@
 """A second reading of the rules of docs 01, sentence after sentence, to be held against the published Rust.
 
-It is written from 01 alone. The comments are 01's sentences, some of them shortened. A lent output is here
-the number of rows that it has room for (13). Left to reading_words.py: the checks of a table (refusals 1, 2
+It is written from 01 and, where that amends it, from request A3 of 02. The comments are 01's sentences, some of
+them shortened; what 02 has changed is marked "A3". A lent output is here the number of rows that it has room
+for (13). Left to reading_words.py: the checks of a table (refusals 1, 2
 and 3: a table handed in here keeps the rules) and of states that are handed in (20).
 """
 import math
@@ -313,7 +314,7 @@ class Stopwatch(Model):
 
 
 class Coupled:
-    """A Coupled has components, couplings and parked messages, and no timer of its own."""
+    """A Coupled has components, couplings and parked messages; its timer is not kept, but follows from these."""
 
     def __init__(self, row, couplings):
         self.row = row
@@ -326,7 +327,11 @@ class Coupled:
 
     @property
     def timer(self):
-        """Timer: least of its components', infinite with none."""
+        """Timer: 0 with any parked message (A3), else the least of its components', infinite with none."""
+        # A3: "From now on a Coupled with any parked message has timer 0." A component that is a Coupled has its
+        # timer by the same sentence, so one parked message makes every Coupled around it due.
+        if self.parked:
+            return 0.0
         return min((component.timer for component in self.components), default=INFINITE)
 
     def saved(self):
@@ -508,7 +513,8 @@ class Simulation:
             for message in self.active:
                 if message.target == model.id:
                     self.deliver(model, message.target_port, message.content)
-        # 2. The advance is 0 if messages were active, else the least timer. Infinite: refusal 12.
+        # 2. The advance is 0 if messages were active, else the least timer. Infinite: refusal 12, "which now also
+        # needs every parked list empty" (A3): with one that is not, the least timer is 0.
         advance = 0.0 if self.active else self.least_timer()
         if advance == INFINITE:
             raise Refused(12)

@@ -1,14 +1,15 @@
 """Random scripts: service times, a table, and calls. The reading plays along and says where a script ends.
 
 A script ends at its first refusal. An idle step (refusal 12) is never asked for, as the Rust does not refuse
-it: a call that would meet one ends before it.
+it: a call that would meet one ends before it. So does a call that would meet a step in which a Coupled has an
+internal event by A3 alone, which it has not in the Rust; there the script ends.
 """
 import random
 from typing import NamedTuple, Optional
 
 from reading import INFINITE, Message, Ran, Refused, Stopwatch, StopwatchRow
 from tables import Tables, parentless
-from watching import Watched
+from watching import PARTS, Watched
 
 RUNS = ('step', 'step_n', 'step_until')
 WIDE_CONTENTS = [0, 7, 2 ** 31, 2 ** 32 - 1]
@@ -105,6 +106,7 @@ class Script(Messages):
         self.most_jobs = self.random.choice(sizes.jobs)
         self.most_steps = self.random.choice(sizes.steps)
         self.simulation = Watched(self.services)
+        self.simulation.stops_where_parted = True
         self.table = self.maker.table()
         self.tables = [self.table]
         self.simulation.post(self.table)
@@ -113,6 +115,7 @@ class Script(Messages):
         self.steps = 0
         self.idle_ends = 0
         self.refusal = None
+        self.parts = False
         self.plan()
 
     @property
@@ -120,14 +123,21 @@ class Script(Messages):
         """Whether the script ends with an error that the Rust swallows."""
         return self.refusal is not None and self.simulation.refused_inside()
 
+    def ends(self):
+        """How the script ends, in words."""
+        if self.refusal is not None:
+            return f'refusal {self.refusal}'
+        return 'where A3 shows' if self.parts else 'none refused'
+
     def plan(self):
-        """Makes the calls, up to the most steps, to a refusal, or to the end of all events."""
+        """Makes the calls, up to the most steps, to a refusal, to where A3 shows, or to the end of all events."""
         try:
             self.inject(self.random.randint(1, max(1, 2 * self.most_jobs // 3)))
-            while self.steps < self.most_steps and self.refusal is None:
-                if self.is_idle():
-                    if self.jobs == self.most_jobs:
-                        break
+            while self.steps < self.most_steps and self.refusal is None and not self.parts:
+                if self.is_idle() and self.jobs == self.most_jobs:
+                    break
+                # Messages can get an idle simulation going, and make a Coupled due in the Rust too.
+                if self.is_idle() or self.simulation.is_about_to_part():
                     self.inject(self.random.randint(1, 2))
                 self.make_some_call()
         except Refused as refusal:
@@ -202,8 +212,10 @@ class Script(Messages):
         """Makes a run and writes it down, with another allowance by which it ends the same way."""
         ran = getattr(self.simulation, name)(*arguments)
         self.steps += ran.steps
-        if ran.refusal == 12:
-            self.end_before_idle(name, arguments, ran)
+        if ran.refusal in (12, PARTS):
+            self.idle_ends += ran.refusal == 12
+            self.parts = ran.refusal == PARTS
+            self.end_before(name, arguments, ran)
             return
         if ran.end == 'Reached':
             arguments = (arguments[0], ran.steps + self.random.choice([0, 1, 500]))
@@ -213,9 +225,8 @@ class Script(Messages):
                 arguments = (arguments[0], ran.steps + self.random.choice([1, 2, 500]))
         self.calls.append(Call(name, arguments, ran))
 
-    def end_before_idle(self, name, arguments, ran):
-        """Writes a run down that takes only the steps before the idle one."""
-        self.idle_ends += 1
+    def end_before(self, name, arguments, ran):
+        """Writes a run down that takes only the steps before the one that the Rust takes otherwise."""
         if ran.steps == 0:
             return
         if name == 'step_until' and self.random.random() < 0.5:

@@ -1,14 +1,15 @@
 """Random cases of the differential runs, each planned from its seed along the reading. They go on past refusals.
 
 short and plain: random calls on random tables. late: times near the largest. burst: connectors and couplings that multiply
-messages, to 64 and 256 and one more. fill: queues filled to 64, 256 injections. long: rings that run for thousands of steps.
-large: tables of up to 64 rows. tables: damaged copies of good tables. states: damaged copies of good states.
+messages, to 64 and 256 and one more. fill: queues filled to 64, 256 injections. parked: messages parked at every depth, often with
+nothing due beside them (A3). long: rings that run for thousands of steps. large: tables of up to 64 rows. tables: damaged copies of
+good tables. states: damaged copies of good states.
 """
 import math
 import random
 
 from asking import table_lines
-from bursts import burst_table, full_table, large_table, ring_table
+from bursts import burst_table, full_table, large_table, parked_table, ring_table
 from calling import ALL_ROWS, Case
 from reading import INFINITE, BatcherRow, Message
 from reading_words import (CONNECTOR_WORDS, COUPLING_WORDS, HEAD_WORDS, MESSAGE_WORDS, MODEL_WORDS, table_words, word_of,
@@ -16,7 +17,8 @@ from reading_words import (CONNECTOR_WORDS, COUPLING_WORDS, HEAD_WORDS, MESSAGE_
 from scripts import NO_STATUS, WIDE_CONTENTS, Call, Messages
 from tables import LATE_TIMES, TIMES, Tables, parentless
 
-KINDS = {'short': 40, 'plain': 13, 'late': 7, 'burst': 8, 'fill': 4, 'long': 1, 'large': 2, 'tables': 10, 'states': 15}
+KINDS = {'short': 36, 'plain': 13, 'late': 7, 'burst': 8, 'fill': 4, 'parked': 4, 'long': 1, 'large': 2, 'tables': 10,
+         'states': 15}
 BAD_TIMES = [math.nan, -math.nan, -1.0, -0.0, math.inf, -math.inf, 2.0 ** 60 + 256, 1e300, -5e-324]
 ODD_WORDS = [0, 1, 2, 3, 4, 5, 6, 7, 8, 63, 64, 65, 255, 256, 257, 2 ** 16 - 1, 2 ** 16, 2 ** 31, 2 ** 32 - 1, 2 ** 32, 2 ** 48,
              2 ** 62, 2 ** 62 + 1, 2 ** 63, 2 ** 64 - 1, 0x3ff0000000000000, 0x43b0000000000000, 0x43b0000000000001,
@@ -101,6 +103,17 @@ class Trial(Messages):
         self.ask_messages()
         self.make_calls(self.random.randint(2, 10))
 
+    def plan_parked(self):
+        """A few jobs, which are parked, and steps."""
+        self.start(parked_table(self.random))
+        for _ in range(self.random.randint(1, 3)):
+            for _ in range(self.random.choice([1, 1, 2, 3])):
+                self.inject(Message(0, 0, 1, 1, 0.0, self.random.choice(self.contents)))
+            self.run_step()
+            self.make_calls(self.random.randint(0, 3))
+        self.run_step_n()
+        self.make_calls(self.random.randint(0, 5))
+
     def plan_long(self):
         """Thousands of steps in one run."""
         table = ring_table(self.random)
@@ -132,7 +145,7 @@ class Trial(Messages):
 
     def plan_states(self):
         """Damaged states."""
-        self.start_with_jobs(self.random.choice([None] * 6 + [full_table, burst_table, ring_table]))
+        self.start_with_jobs(self.random.choice([None] * 6 + [full_table, burst_table, ring_table, parked_table]))
         self.make_calls(self.random.randint(1, 8))
         for _ in range(self.random.randint(4, 10)):
             if self.case.slices is not None:

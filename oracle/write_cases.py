@@ -11,7 +11,8 @@ place; after the last call and a SHARE (1: all) of the other runs every model an
 A second reading of 01 plans the scripts. Where it and the oracle differ, nothing is written. Left out, with
 the next number tried: refusals that the Rust does not have, errors that it swallows (DIFFERENCES.md, item
 20), and scripts that do too little. No case has an idle step (12) or asks for a stopwatch's mean, which the
-Rust prints with three digits.
+Rust prints with three digits. A case ends before a step in which A3 shows (README.md says where that is): the
+Rust has it not.
 """
 import argparse
 import collections
@@ -109,10 +110,9 @@ def steps_group(steps):
 
 def count_end(total, script):
     """Counts how the script ended."""
+    total[f'ends: {script.ends()}'] += 1
     if script.refusal is None:
-        total['ends: none refused'] += 1
         return
-    total[f'ends: refusal {script.refusal}'] += 1
     total['refused after ' + ('some steps' if script.steps else 'no step')] += 1
     path = script.simulation.path
     total[f'refused in an {path[0][0]} event, at depth {path[-1][1]}'] += 1

@@ -7,7 +7,8 @@
 The scripts have the numbers seed * 100000 and on; a case has its script's number. A second reading of 01 plans
 them. Where it and the oracle differ, nothing is written: every answer is the oracle's. A case ends with its
 first refusal where the Rust has it too (5, 6; 9 by the list that stands in for random_variate), and before it
-where the Rust has not, or swallows it (DIFFERENCES.md, item 20). An idle step (12) is never asked for.
+where the Rust has not, or swallows it (DIFFERENCES.md, item 20). An idle step (12) is never asked for. It ends too
+before a step in which A3 shows (README.md says where that is): the Rust has it not.
 
 A case is lines of numbers up to an empty one, decimal or `0x` and 16 digits; times are bits. The first has the case's
 number, how many words are lent for the state, and the service times. Then come for each call a line that says which
