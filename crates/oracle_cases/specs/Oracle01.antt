@@ -209,11 +209,11 @@ case-018 = refl
 -- 100022
 pub case-019 :
     play (coup 1 0 ∷ bat 4096 1 1 2 1 0x3fb999999999999a ∷ proc 32768 1 1 1 2 ∷ proc 65535 1 1 1 1 ∷ bat 2 0 1 1 4 0x4004000000000000 ∷ proc 257 1 1 2 2 ∷ []) (link 2 1 1 2 ∷ link 1 1 2 1 ∷ link 2 1 1 1 ∷ []) (into 1 1 4096 3 ∷ inner 1 65535 1 65535 1 ∷ into 1 1 32768 1 ∷ out 1 257 2 1 ∷ inner 1 4096 2 257 1 ∷ inner 1 65535 1 4096 4 ∷ inner 1 4096 2 65535 1 ∷ into 1 2 257 1 ∷ [])
-    (0x3ff0000000000000 ∷ 0x3fb999999999999a ∷ 0 ∷ 0x3e112e0be826d695 ∷ 0x4004000000000000 ∷ 0x401c000000000000 ∷ [])
-    (job 2 1 2 ∷ step ∷ look ∷ status 32768 ∷ steps 3 ∷ look ∷ step ∷ look ∷ step ∷ look ∷ step ∷ [])
+    (0x3ff0000000000000 ∷ 0x3fb999999999999a ∷ 0 ∷ [])
+    (job 2 1 2 ∷ step ∷ look ∷ status 32768 ∷ steps 2 ∷ [])
     ≡ seen
-    (ran 1 [] 0 0 ∷ holds (c0 ∷ b0 ∷ p0 ∷ p0 ∷ bBatching 0x4004000000000000 (2 ∷ []) ∷ p0 ∷ []) [] ∷ refuses 4 ∷ ran 3 ((2, 1, 1, 2, 0x4004000000000000, 2) ∷ (2, 1, 1, 1, 0x4004000000000000, 2) ∷ []) 0x4004cccccccccccd 3 ∷ holds (parks ((65535, 1, 2) ∷ (4096, 4, 2) ∷ []) ∷ b0 ∷ pPassive 0 [] ∷ pPassive 0 [] ∷ b0 ∷ pActive 0x3feccccccccccccd (2 ∷ 2 ∷ []) ∷ []) [] ∷ ran 1 [] 0x4004cccccccccccd 4 ∷ holds (parks ((257, 1, 2) ∷ (65535, 1, 2) ∷ []) ∷ b0 ∷ p0 ∷ pActive 0x3e112e0be826d695 (2 ∷ []) ∷ b0 ∷ pActive 0x3feccccccccccccd (2 ∷ 2 ∷ []) ∷ []) [] ∷ ran 1 [] 0x4004ccccccef28e5 4 ∷ holds (parks ((65535, 1, 2) ∷ (4096, 4, 2) ∷ []) ∷ b0 ∷ p0 ∷ pPassive 0 [] ∷ b0 ∷ pActive 0x3feccccccc435c6e (2 ∷ 2 ∷ []) ∷ []) [] ∷ ran 1 [] 0x4004ccccccef28e5 5 ∷ [])
-    (parks ((257, 1, 2) ∷ (65535, 1, 2) ∷ []) ∷ b0 ∷ p0 ∷ pActive 0x4004000000000000 (2 ∷ []) ∷ b0 ∷ pActive 0x3feccccccc435c6e (2 ∷ 2 ∷ []) ∷ []) []
+    (ran 1 [] 0 0 ∷ holds (c0 ∷ b0 ∷ p0 ∷ p0 ∷ bBatching 0x4004000000000000 (2 ∷ []) ∷ p0 ∷ []) [] ∷ refuses 4 ∷ ran 2 ((2, 1, 1, 2, 0x4004000000000000, 2) ∷ (2, 1, 1, 1, 0x4004000000000000, 2) ∷ []) 0x4004000000000000 2 ∷ [])
+    (parks ((257, 1, 2) ∷ (65535, 1, 2) ∷ []) ∷ b0 ∷ pActive 0x3fb999999999999a (2 ∷ []) ∷ p0 ∷ b0 ∷ pActive 0x3ff0000000000000 (2 ∷ []) ∷ []) []
 unfolding play
 case-019 = refl
 

@@ -52,19 +52,8 @@ pub case-029 :
 unfolding play
 case-029 = refl
 
--- 100036
-pub case-030 :
-    play (coup 9 0 ∷ coup 4 9 ∷ bat 7 4 1 2 4 0x3ff0000000000000 ∷ bat 1 4 1 2 3 0x3fd3333333333333 ∷ []) (link 1 2 9 1 ∷ link 9 4 99 3 ∷ link 9 2 9 3 ∷ link 9 1 9 4 ∷ []) (into 4 2 7 2 ∷ out 4 1 2 2 ∷ inner 9 4 2 4 2 ∷ inner 9 4 2 4 2 ∷ out 4 1 2 2 ∷ inner 4 7 2 7 1 ∷ into 9 1 4 2 ∷ inner 4 7 2 98 3 ∷ into 4 1 1 2 ∷ inner 9 4 2 4 2 ∷ inner 9 4 2 4 2 ∷ inner 4 7 2 7 3 ∷ into 9 1 4 1 ∷ [])
-    []
-    (job 9 2 2147483648 ∷ inject 0 0 9 1 0x4010000000000000 2147483648 ∷ inject 5 3 9 1 0 2147483648 ∷ job 9 1 2147483648 ∷ inject 0 0 9 1 0x4004000000000000 4294967295 ∷ job 9 1 7 ∷ job 9 1 7 ∷ job 9 1 2147483648 ∷ reset-messages ∷ job 9 1 0 ∷ job 97 2 2147483648 ∷ step ∷ look ∷ step ∷ look ∷ until 0x4006666666666666 4 ∷ [])
-    ≡ seen
-    (ran 1 [] 0 0 ∷ holds (c0 ∷ c0 ∷ bBatching 0x3ff0000000000000 (0 ∷ []) ∷ bBatching 0x3fd3333333333333 (0 ∷ []) ∷ []) [] ∷ ran 1 [] 0x3fd3333333333333 0 ∷ holds (parks ((4, 2, 0) ∷ (4, 2, 0) ∷ (4, 2, 0) ∷ (4, 2, 0) ∷ (4, 2, 0) ∷ (4, 2, 0) ∷ (4, 2, 0) ∷ (4, 2, 0) ∷ []) ∷ c0 ∷ bBatching 0x3fe6666666666666 (0 ∷ []) ∷ b0 ∷ []) [] ∷ spent 4 [] 0x3ff0000000000000 0 ∷ [])
-    (c0 ∷ parks ((7, 1, 0) ∷ (98, 3, 0) ∷ (7, 3, 0) ∷ (7, 1, 0) ∷ (98, 3, 0) ∷ (7, 3, 0) ∷ (7, 1, 0) ∷ (98, 3, 0) ∷ (7, 3, 0) ∷ (7, 1, 0) ∷ (98, 3, 0) ∷ (7, 3, 0) ∷ []) ∷ bRelease 0 (0 ∷ 0 ∷ 0 ∷ 0 ∷ 0 ∷ 0 ∷ 0 ∷ 0 ∷ 0 ∷ 0 ∷ 0 ∷ 0 ∷ 0 ∷ 0 ∷ 0 ∷ 0 ∷ 0 ∷ []) ∷ b0 ∷ []) []
-unfolding play
-case-030 = refl
-
 -- 100037
-pub case-031 :
+pub case-030 :
     play (coup 5 0 ∷ coup 7 5 ∷ most 6 7 2 4 1 2 ∷ coup 4 7 ∷ most 2 0 4 2 3 1 ∷ []) (link 2 1 2 4 ∷ link 5 2 2 3 ∷ link 5 2 2 2 ∷ link 5 1 2 3 ∷ link 4 2 5 2 ∷ link 5 1 99 4 ∷ link 2 1 5 4 ∷ []) (inner 5 7 2 7 3 ∷ out 7 6 2 2 ∷ into 5 2 7 3 ∷ into 7 1 4 2 ∷ inner 5 7 1 7 1 ∷ out 7 6 2 1 ∷ inner 7 4 4 4 3 ∷ into 7 1 4 4 ∷ inner 7 6 2 6 2 ∷ into 7 1 6 2 ∷ out 5 7 1 1 ∷ inner 5 7 2 7 1 ∷ into 7 1 6 2 ∷ into 5 1 7 1 ∷ out 5 7 2 2 ∷ inner 7 6 2 4 3 ∷ out 7 4 3 2 ∷ inner 7 4 3 6 1 ∷ into 7 2 6 4 ∷ into 7 3 6 1 ∷ into 5 2 7 3 ∷ [])
     []
     (job 2 3 1 ∷ inject 0 0 2 2 0x0000000000000001 1 ∷ steps 1 ∷ look ∷ inject 0 0 5 2 0x4004000000000000 2 ∷ job 5 2 3 ∷ job 2 4 1 ∷ job 2 4 1 ∷ job 2 4 1 ∷ steps 0 ∷ look ∷ step ∷ look ∷ job 2 3 1 ∷ inject 65535 3 2 2 0x401c000000000000 1 ∷ job 2 3 1 ∷ job 2 2 1 ∷ inject 0 0 2 3 0x4028b0a3d70a3d71 1 ∷ step ∷ look ∷ reset-global-time ∷ reset-global-time ∷ step ∷ [])
@@ -72,10 +61,10 @@ pub case-031 :
     (ran 1 [] 0 0 ∷ holds (c0 ∷ c0 ∷ s0 ∷ c0 ∷ sPassive inf ((1, none, some 0) ∷ []) ∷ []) [] ∷ ran 0 [] 0 0 ∷ holds (c0 ∷ c0 ∷ s0 ∷ c0 ∷ sPassive inf ((1, none, some 0) ∷ []) ∷ []) ((0, 0, 5, 2, 0x4004000000000000, 2) ∷ (0, 0, 5, 2, 0, 3) ∷ (0, 0, 2, 4, 0, 1) ∷ (0, 0, 2, 4, 0, 1) ∷ (0, 0, 2, 4, 0, 1) ∷ []) ∷ ran 1 [] 0 0 ∷ holds (c0 ∷ c0 ∷ s0 ∷ c0 ∷ sPassive inf ((1, some 0, some 0) ∷ []) ∷ []) [] ∷ ran 1 ((2, 1, 2, 4, 0, 1) ∷ (2, 1, 5, 4, 0, 1) ∷ []) 0 0 ∷ holds (c0 ∷ c0 ∷ s0 ∷ c0 ∷ sPassive inf ((1, some 0, some 0) ∷ []) ∷ []) ((2, 1, 2, 4, 0, 1) ∷ (2, 1, 5, 4, 0, 1) ∷ []) ∷ ran 1 [] 0 0 ∷ [])
     (c0 ∷ c0 ∷ s0 ∷ c0 ∷ sPassive inf ((1, some 0, some 0) ∷ []) ∷ []) []
 unfolding play
-case-031 = refl
+case-030 = refl
 
 -- 100038
-pub case-032 :
+pub case-031 :
     play (coup 6 0 ∷ coup 2 6 ∷ coup 1 2 ∷ bat 7 2 1 1 3 0 ∷ proc 5 0 1 1 8 ∷ proc 8 1 1 2 2 ∷ []) (link 2 2 5 1 ∷ link 6 1 6 1 ∷ []) (into 6 1 2 2 ∷ into 6 1 2 2 ∷ inner 6 2 1 2 2 ∷ out 6 2 3 1 ∷ inner 2 1 1 7 4 ∷ into 2 2 1 1 ∷ into 1 2 8 1 ∷ out 6 2 4 1 ∷ out 6 2 2 1 ∷ out 1 8 2 1 ∷ into 6 1 2 2 ∷ into 1 1 8 1 ∷ into 1 1 8 1 ∷ into 2 2 7 4 ∷ [])
     (0x4010000000000000 ∷ 0x3fd3333333333333 ∷ 0x4004000000000000 ∷ 0x4010000000000000 ∷ 0x401c000000000000 ∷ [])
     (job 5 1 3 ∷ step ∷ look ∷ reset-messages ∷ reset-global-time ∷ step ∷ look ∷ until 0x4008000000000000 501 ∷ look ∷ job 5 1 3 ∷ job 6 1 1 ∷ steps 2 ∷ look ∷ step ∷ look ∷ steps 1 ∷ [])
@@ -83,10 +72,10 @@ pub case-032 :
     (ran 1 [] 0 1 ∷ holds (c0 ∷ c0 ∷ c0 ∷ b0 ∷ pActive 0x4010000000000000 (3 ∷ []) ∷ p0 ∷ []) [] ∷ ran 1 [] 0x4010000000000000 1 ∷ holds (c0 ∷ c0 ∷ c0 ∷ b0 ∷ pPassive 0 [] ∷ p0 ∷ []) [] ∷ reached 1 [] 0x4010000000000000 1 ∷ holds (c0 ∷ c0 ∷ c0 ∷ b0 ∷ p0 ∷ p0 ∷ []) [] ∷ ran 2 [] 0x4011333333333333 3 ∷ holds (c0 ∷ parks ((7, 4, 1) ∷ []) ∷ c0 ∷ b0 ∷ pActive 0x400199999999999a (3 ∷ []) ∷ pPassive 0 (1 ∷ []) ∷ []) [] ∷ ran 1 [] 0x4011333333333333 4 ∷ holds (c0 ∷ c0 ∷ c0 ∷ b0 ∷ pActive 0x400199999999999a (3 ∷ []) ∷ pActive 0x4010000000000000 (1 ∷ []) ∷ []) [] ∷ ran 1 [] 0x401a000000000000 4 ∷ [])
     (c0 ∷ c0 ∷ c0 ∷ b0 ∷ pPassive 0 [] ∷ pActive 0x3ffccccccccccccc (1 ∷ []) ∷ []) []
 unfolding play
-case-032 = refl
+case-031 = refl
 
 -- 100039
-pub case-033 :
+pub case-032 :
     play (coup 6 0 ∷ coup 3 6 ∷ proc 9 3 1 2 0 ∷ proc 4 3 1 1 1 ∷ proc 7 3 1 1 3 ∷ []) (link 9 2 6 2 ∷ link 6 2 6 1 ∷ link 6 1 6 2 ∷ []) (inner 3 7 1 7 1 ∷ out 6 3 2 1 ∷ out 3 4 1 1 ∷ into 6 1 3 1 ∷ inner 6 3 2 3 3 ∷ into 3 1 4 1 ∷ inner 3 9 2 4 1 ∷ inner 6 3 1 3 1 ∷ inner 6 3 2 3 1 ∷ inner 3 9 2 7 1 ∷ into 6 2 3 1 ∷ out 3 9 2 2 ∷ inner 3 7 1 4 1 ∷ [])
     (0x3e112e0be826d695 ∷ 0x4010000000000000 ∷ 0x4010000000000000 ∷ 0x3fe6666666666666 ∷ 0x3ff0000000000000 ∷ 0x3fb999999999999a ∷ [])
     (job 6 1 1 ∷ inject 0 0 6 1 0x401c000000000000 3 ∷ reset ∷ job 6 1 3 ∷ job 6 2 2 ∷ step ∷ look ∷ steps 3 ∷ look ∷ step ∷ look ∷ steps 3 ∷ look ∷ step ∷ look ∷ step ∷ look ∷ until 0x40256666666efd6c 1 ∷ [])
@@ -94,10 +83,10 @@ pub case-033 :
     (ran 1 [] 0 1 ∷ holds (c0 ∷ c0 ∷ p0 ∷ pActive 0x3e112e0be826d695 (3 ∷ []) ∷ p0 ∷ []) [] ∷ ran 3 [] 0x4010000000112e0c 2 ∷ holds (parks ((3, 1, 3) ∷ []) ∷ c0 ∷ p0 ∷ pPassive 0 [] ∷ p0 ∷ []) [] ∷ ran 1 [] 0x4010000000112e0c 3 ∷ holds (c0 ∷ c0 ∷ p0 ∷ pActive 0x4010000000000000 (3 ∷ []) ∷ p0 ∷ []) [] ∷ ran 3 [] 0x40216666666efd6c 4 ∷ holds (parks ((3, 1, 3) ∷ []) ∷ c0 ∷ p0 ∷ pPassive 0 [] ∷ p0 ∷ []) [] ∷ ran 1 [] 0x40216666666efd6c 5 ∷ holds (c0 ∷ c0 ∷ p0 ∷ pActive 0x3ff0000000000000 (3 ∷ []) ∷ p0 ∷ []) [] ∷ ran 1 [] 0x40236666666efd6c 5 ∷ holds (parks ((3, 1, 3) ∷ []) ∷ c0 ∷ p0 ∷ pPassive 0 [] ∷ p0 ∷ []) [] ∷ spent 1 [] 0x40236666666efd6c 6 ∷ [])
     (c0 ∷ c0 ∷ p0 ∷ pActive 0x3fb999999999999a (3 ∷ []) ∷ p0 ∷ []) []
 unfolding play
-case-033 = refl
+case-032 = refl
 
 -- 100040
-pub case-034 :
+pub case-033 :
     play (coup 8 0 ∷ proc 3 8 65535 65535 1 ∷ proc 1 8 65535 256 1 ∷ proc 2 8 65535 65535 1 ∷ []) (link 8 256 8 65535 ∷ link 8 256 8 65535 ∷ link 8 65535 99 65535 ∷ link 8 65535 8 65535 ∷ []) (out 8 3 65535 256 ∷ out 8 2 65535 65535 ∷ into 8 65535 2 65535 ∷ inner 8 1 256 3 65535 ∷ into 8 65535 1 65535 ∷ inner 8 1 256 2 65535 ∷ out 8 2 65535 65535 ∷ [])
     (0x3ff0000000000000 ∷ 0x4004000000000000 ∷ 0x3ff0000000000000 ∷ 0x430c6bf526340004 ∷ [])
     (inject 0 0 8 65535 0x4028b0a3d70a3d71 0 ∷ step ∷ look ∷ step ∷ look ∷ reset-global-time ∷ steps 2 ∷ [])
@@ -105,10 +94,10 @@ pub case-034 :
     (ran 1 [] 0 2 ∷ holds (c0 ∷ p0 ∷ pActive 0x4004000000000000 (0 ∷ []) ∷ pActive 0x3ff0000000000000 (0 ∷ []) ∷ []) [] ∷ ran 1 ((8, 65535, 99, 65535, 0x3ff0000000000000, 0) ∷ (8, 65535, 8, 65535, 0x3ff0000000000000, 0) ∷ (8, 65535, 99, 65535, 0x3ff0000000000000, 0) ∷ (8, 65535, 8, 65535, 0x3ff0000000000000, 0) ∷ []) 0x3ff0000000000000 2 ∷ holds (c0 ∷ p0 ∷ pActive 0x3ff8000000000000 (0 ∷ []) ∷ pPassive 0 [] ∷ []) ((8, 65535, 99, 65535, 0x3ff0000000000000, 0) ∷ (8, 65535, 8, 65535, 0x3ff0000000000000, 0) ∷ (8, 65535, 99, 65535, 0x3ff0000000000000, 0) ∷ (8, 65535, 8, 65535, 0x3ff0000000000000, 0) ∷ []) ∷ ran 2 ((8, 65535, 99, 65535, 0x3ff0000000000000, 0) ∷ (8, 65535, 8, 65535, 0x3ff0000000000000, 0) ∷ (8, 65535, 99, 65535, 0x3ff0000000000000, 0) ∷ (8, 65535, 8, 65535, 0x3ff0000000000000, 0) ∷ []) 0x3ff0000000000000 3 ∷ [])
     (c0 ∷ p0 ∷ pActive 0x3fe0000000000000 (0 ∷ []) ∷ pPassive 0 [] ∷ []) ((8, 65535, 99, 65535, 0x3ff0000000000000, 0) ∷ (8, 65535, 8, 65535, 0x3ff0000000000000, 0) ∷ (8, 65535, 99, 65535, 0x3ff0000000000000, 0) ∷ (8, 65535, 8, 65535, 0x3ff0000000000000, 0) ∷ [])
 unfolding play
-case-034 = refl
+case-033 = refl
 
 -- 100041
-pub case-035 :
+pub case-034 :
     play (bat 3 0 1 1 2 0x4010000000000000 ∷ proc 2 0 1 1 2 ∷ most 5 0 2 3 1 2 ∷ bat 4 0 1 1 2 0x3fd2492492492492 ∷ proc 6 0 1 1 1 ∷ bat 9 0 1 2 3 0x3e112e0be826d695 ∷ []) (link 4 1 2 9 ∷ link 5 2 4 1 ∷ link 2 1 5 3 ∷ link 5 2 2 1 ∷ link 6 1 5 1 ∷ link 6 1 2 1 ∷ link 9 2 4 4 ∷ link 2 1 3 1 ∷ link 3 1 2 1 ∷ link 3 1 5 2 ∷ []) []
     (0x4004000000000000 ∷ 0 ∷ 0x3fe6666666666666 ∷ 0x3fb999999999999a ∷ [])
     (inject 5 3 6 1 0 2 ∷ inject 0 0 3 2 0x401c000000000000 2 ∷ job 5 3 1 ∷ job 3 2 3 ∷ job 6 1 2 ∷ step ∷ look ∷ job 4 1 1 ∷ job 9 4 1 ∷ inject 0 0 2 1 0x3fd3333333333333 1 ∷ steps 2 ∷ look ∷ until 0 501 ∷ look ∷ step ∷ look ∷ until 0x4024000000089706 500 ∷ [])
@@ -116,10 +105,10 @@ pub case-035 :
     (ran 1 ((3, 1, 2, 1, 0, 2) ∷ (3, 1, 5, 2, 0, 2) ∷ (3, 1, 2, 1, 0, 3) ∷ (3, 1, 5, 2, 0, 3) ∷ []) 0 1 ∷ holds (b0 ∷ p0 ∷ sPassive inf ((1, none, some 0) ∷ []) ∷ b0 ∷ pActive 0x4004000000000000 (2 ∷ []) ∷ b0 ∷ []) ((3, 1, 2, 1, 0, 2) ∷ (3, 1, 5, 2, 0, 2) ∷ (3, 1, 2, 1, 0, 3) ∷ (3, 1, 5, 2, 0, 3) ∷ []) ∷ ran 2 ((2, 1, 5, 3, 0, 2) ∷ (2, 1, 3, 1, 0, 2) ∷ []) 0 3 ∷ holds (bBatching 0x4010000000000000 (2 ∷ []) ∷ pActive 0x3fe6666666666666 (3 ∷ []) ∷ sPassive inf ((1, none, some 0) ∷ (2, some 0, some 0) ∷ (3, some 0, none) ∷ []) ∷ bBatching 0x3fd2492492492492 (1 ∷ []) ∷ pActive 0x4004000000000000 (2 ∷ []) ∷ bBatching 0x3e112e0be826d695 (1 ∷ []) ∷ []) [] ∷ reached 1 [] 0x3e112e0be826d695 3 ∷ holds (bBatching 0x400fffffffdda3e8 (2 ∷ []) ∷ pActive 0x3fe6666665dcf607 (3 ∷ []) ∷ sPassive inf ((1, none, some 0) ∷ (2, some 0, some 0) ∷ (3, some 0, none) ∷ []) ∷ bBatching 0x3fd24924913643d3 (1 ∷ []) ∷ pActive 0x4003ffffffdda3e8 (2 ∷ []) ∷ b0 ∷ []) ((9, 2, 4, 4, 0x3e112e0be826d695, 1) ∷ []) ∷ ran 1 ((4, 1, 2, 9, 0x3e112e0be826d695, 1) ∷ (4, 1, 2, 9, 0x3e112e0be826d695, 1) ∷ []) 0x3e112e0be826d695 3 ∷ holds (bBatching 0x400fffffffdda3e8 (2 ∷ []) ∷ pActive 0x3fe6666665dcf607 (3 ∷ []) ∷ sPassive inf ((1, none, some 0) ∷ (2, some 0, some 0) ∷ (3, some 0, none) ∷ []) ∷ b0 ∷ pActive 0x4003ffffffdda3e8 (2 ∷ []) ∷ b0 ∷ []) ((4, 1, 2, 9, 0x3e112e0be826d695, 1) ∷ (4, 1, 2, 9, 0x3e112e0be826d695, 1) ∷ []) ∷ stopped 5 0 [] 0x3e112e0be826d695 3 ∷ [])
     (bBatching 0x400fffffffdda3e8 (2 ∷ []) ∷ pActive 0x3fe6666665dcf607 (3 ∷ []) ∷ sPassive inf ((1, none, some 0) ∷ (2, some 0, some 0) ∷ (3, some 0, none) ∷ []) ∷ b0 ∷ pActive 0x4003ffffffdda3e8 (2 ∷ []) ∷ b0 ∷ []) ((4, 1, 2, 9, 0x3e112e0be826d695, 1) ∷ (4, 1, 2, 9, 0x3e112e0be826d695, 1) ∷ [])
 unfolding play
-case-035 = refl
+case-034 = refl
 
 -- 100042
-pub case-036 :
+pub case-035 :
     play (most 3 0 2 4 3 2 ∷ bat 5 0 1 1 3 0x0011fa182c40c60d ∷ proc 9 0 1 2 1 ∷ most 1 0 1 2 4 1 ∷ []) (link 1 1 1 2 ∷ link 5 1 1 1 ∷ link 1 1 3 3 ∷ link 3 2 3 2 ∷ link 9 2 9 1 ∷ link 9 2 5 2 ∷ link 5 1 3 4 ∷ link 3 2 9 1 ∷ link 1 1 9 1 ∷ link 1 1 5 3 ∷ link 3 2 1 2 ∷ link 3 2 1 4 ∷ []) []
     (0x4010000000000000 ∷ 0 ∷ [])
     (inject 0 0 5 3 0x4010000000000000 3 ∷ until 0x4010000000000000 3 ∷ look ∷ job 1 2 3 ∷ inject 65535 3 3 2 0 3 ∷ step ∷ look ∷ job 3 3 3 ∷ job 3 3 3 ∷ steps 3 ∷ look ∷ until 0x401c000000000000 5 ∷ [])
@@ -127,10 +116,10 @@ pub case-036 :
     (spent 3 ((5, 1, 1, 1, 0x0011fa182c40c60d, 3) ∷ (5, 1, 3, 4, 0x0011fa182c40c60d, 3) ∷ []) 0x0011fa182c40c60d 0 ∷ holds (sPassive inf ((3, none, some 0x0011fa182c40c60d) ∷ []) ∷ b0 ∷ p0 ∷ sPassive inf ((3, some 0x0011fa182c40c60d, none) ∷ []) ∷ []) [] ∷ ran 1 [] 0x0011fa182c40c60d 0 ∷ holds (sPassive inf ((3, some 0x0011fa182c40c60d, some 0x0011fa182c40c60d) ∷ []) ∷ b0 ∷ p0 ∷ sPassive inf ((3, some 0x0011fa182c40c60d, some 0x0011fa182c40c60d) ∷ []) ∷ []) [] ∷ ran 3 ((3, 2, 3, 2, 0x0011fa182c40c60d, 3) ∷ (3, 2, 9, 1, 0x0011fa182c40c60d, 3) ∷ (3, 2, 1, 2, 0x0011fa182c40c60d, 3) ∷ (3, 2, 1, 4, 0x0011fa182c40c60d, 3) ∷ (1, 1, 1, 2, 0x0011fa182c40c60d, 3) ∷ (1, 1, 3, 3, 0x0011fa182c40c60d, 3) ∷ (1, 1, 9, 1, 0x0011fa182c40c60d, 3) ∷ (1, 1, 5, 3, 0x0011fa182c40c60d, 3) ∷ (3, 2, 3, 2, 0x0011fa182c40c60d, 3) ∷ (3, 2, 9, 1, 0x0011fa182c40c60d, 3) ∷ (3, 2, 1, 2, 0x0011fa182c40c60d, 3) ∷ (3, 2, 1, 4, 0x0011fa182c40c60d, 3) ∷ []) 0x0011fa182c40c60d 1 ∷ holds (sPassive inf ((3, some 0x0011fa182c40c60d, some 0x0011fa182c40c60d) ∷ []) ∷ bBatching 0x0011fa182c40c60d (3 ∷ []) ∷ pActive 0x4010000000000000 (3 ∷ []) ∷ sPassive inf ((3, some 0x0011fa182c40c60d, some 0x0011fa182c40c60d) ∷ []) ∷ []) ((3, 2, 3, 2, 0x0011fa182c40c60d, 3) ∷ (3, 2, 9, 1, 0x0011fa182c40c60d, 3) ∷ (3, 2, 1, 2, 0x0011fa182c40c60d, 3) ∷ (3, 2, 1, 4, 0x0011fa182c40c60d, 3) ∷ []) ∷ spent 5 ((1, 1, 1, 2, 0x0011fa182c40c60d, 3) ∷ (1, 1, 3, 3, 0x0011fa182c40c60d, 3) ∷ (1, 1, 9, 1, 0x0011fa182c40c60d, 3) ∷ (1, 1, 5, 3, 0x0011fa182c40c60d, 3) ∷ (3, 2, 3, 2, 0x0011fa182c40c60d, 3) ∷ (3, 2, 9, 1, 0x0011fa182c40c60d, 3) ∷ (3, 2, 1, 2, 0x0011fa182c40c60d, 3) ∷ (3, 2, 1, 4, 0x0011fa182c40c60d, 3) ∷ (1, 1, 1, 2, 0x0011fa182c40c60d, 3) ∷ (1, 1, 3, 3, 0x0011fa182c40c60d, 3) ∷ (1, 1, 9, 1, 0x0011fa182c40c60d, 3) ∷ (1, 1, 5, 3, 0x0011fa182c40c60d, 3) ∷ (3, 2, 3, 2, 0x0011fa182c40c60d, 3) ∷ (3, 2, 9, 1, 0x0011fa182c40c60d, 3) ∷ (3, 2, 1, 2, 0x0011fa182c40c60d, 3) ∷ (3, 2, 1, 4, 0x0011fa182c40c60d, 3) ∷ (5, 1, 1, 1, 0x0011fa182c40c60d, 3) ∷ (5, 1, 3, 4, 0x0011fa182c40c60d, 3) ∷ (5, 1, 1, 1, 0x0011fa182c40c60d, 3) ∷ (5, 1, 3, 4, 0x0011fa182c40c60d, 3) ∷ (5, 1, 1, 1, 0x0011fa182c40c60d, 3) ∷ (5, 1, 3, 4, 0x0011fa182c40c60d, 3) ∷ (1, 1, 1, 2, 0x0011fa182c40c60d, 3) ∷ (1, 1, 3, 3, 0x0011fa182c40c60d, 3) ∷ (1, 1, 9, 1, 0x0011fa182c40c60d, 3) ∷ (1, 1, 5, 3, 0x0011fa182c40c60d, 3) ∷ []) 0x0011fa182c40c60d 1 ∷ [])
     (sPassive inf ((3, some 0x0011fa182c40c60d, some 0x0011fa182c40c60d) ∷ []) ∷ b0 ∷ pActive 0x4010000000000000 (3 ∷ []) ∷ sPassive inf ((3, some 0x0011fa182c40c60d, some 0x0011fa182c40c60d) ∷ []) ∷ []) ((1, 1, 1, 2, 0x0011fa182c40c60d, 3) ∷ (1, 1, 3, 3, 0x0011fa182c40c60d, 3) ∷ (1, 1, 9, 1, 0x0011fa182c40c60d, 3) ∷ (1, 1, 5, 3, 0x0011fa182c40c60d, 3) ∷ [])
 unfolding play
-case-036 = refl
+case-035 = refl
 
 -- 100043
-pub case-037 :
+pub case-036 :
     play (least 5 0 3 1 2 2 ∷ least 2 0 2 4 1 2 ∷ most 9 0 2 1 3 2 ∷ least 6 0 3 4 2 1 ∷ proc 1 0 1 1 1 ∷ coup 3 0 ∷ []) (link 9 2 6 2 ∷ link 1 1 9 1 ∷ link 5 2 9 3 ∷ link 5 2 5 3 ∷ link 2 2 5 1 ∷ link 9 2 5 2 ∷ link 1 1 2 2 ∷ link 1 1 5 1 ∷ link 5 2 9 2 ∷ link 6 1 2 4 ∷ link 5 2 1 1 ∷ link 6 1 2 1 ∷ link 2 2 5 2 ∷ link 5 2 2 1 ∷ link 6 1 3 2 ∷ link 1 1 2 2 ∷ []) []
     (0 ∷ 0x401c000000000000 ∷ [])
     (inject 0 0 5 3 0x401c000000000000 1 ∷ job 9 1 2 ∷ job 3 2 2 ∷ job 6 4 3 ∷ inject 0 0 5 2 0x3ff0000000000000 3 ∷ job 5 1 2 ∷ status 96 ∷ steps 1 ∷ look ∷ job 3 1 1 ∷ until 0x3ff0000000000000 1 ∷ look ∷ job 1 1 3 ∷ job 1 1 3 ∷ reset-global-time ∷ until 0 2 ∷ look ∷ step ∷ look ∷ inject 0 0 1 1 0x401c000000000000 1 ∷ inject 0 0 9 2 0x401c000000000000 3 ∷ put-in (bat 8 0 1 2 1 0x4004000000000000 ∷ proc 7 0 1 2 full ∷ proc 5 0 1 1 2 ∷ proc 9 0 1 2 8 ∷ bat 1 0 1 1 2 0x3fd5555555555555 ∷ coup 4 0 ∷ []) (link 9 2 5 1 ∷ link 1 1 5 1 ∷ link 7 2 8 2 ∷ link 5 1 1 1 ∷ link 4 1 8 4 ∷ link 7 2 8 2 ∷ []) [] ∷ steps 2 ∷ [])
@@ -138,10 +127,10 @@ pub case-037 :
     (refuses 4 ∷ ran 1 [] 0 0 ∷ holds (sPassive inf ((1, some 0, none) ∷ (2, none, some 0) ∷ []) ∷ s0 ∷ sPassive inf ((2, none, some 0) ∷ []) ∷ sPassive inf ((3, none, some 0) ∷ []) ∷ p0 ∷ c0 ∷ []) [] ∷ spent 1 [] 0 0 ∷ holds (sPassive inf ((1, some 0, none) ∷ (2, none, some 0) ∷ []) ∷ s0 ∷ sPassive inf ((2, none, some 0) ∷ []) ∷ sPassive inf ((3, none, some 0) ∷ []) ∷ p0 ∷ c0 ∷ []) [] ∷ reached 1 [] 0 1 ∷ holds (sPassive inf ((1, some 0, none) ∷ (2, none, some 0) ∷ []) ∷ s0 ∷ sPassive inf ((2, none, some 0) ∷ []) ∷ sPassive inf ((3, none, some 0) ∷ []) ∷ pPassive 0 [] ∷ c0 ∷ []) ((1, 1, 9, 1, 0, 3) ∷ (1, 1, 2, 2, 0, 3) ∷ (1, 1, 5, 1, 0, 3) ∷ (1, 1, 2, 2, 0, 3) ∷ []) ∷ ran 1 [] 0 1 ∷ holds (sPassive inf ((1, some 0, none) ∷ (2, none, some 0) ∷ (3, none, some 0) ∷ []) ∷ sPassive inf ((3, some 0, none) ∷ []) ∷ sPassive inf ((2, none, some 0) ∷ (3, none, some 0) ∷ []) ∷ sPassive inf ((3, none, some 0) ∷ []) ∷ p0 ∷ c0 ∷ []) [] ∷ stopped 5 0 [] 0 1 ∷ [])
     (b0 ∷ p0 ∷ p0 ∷ p0 ∷ b0 ∷ c0 ∷ []) ((0, 0, 1, 1, 0x401c000000000000, 1) ∷ (0, 0, 9, 2, 0x401c000000000000, 3) ∷ [])
 unfolding play
-case-037 = refl
+case-036 = refl
 
 -- 100046
-pub case-038 :
+pub case-037 :
     play (coup 8 0 ∷ proc 3 8 1 1 0 ∷ bat 2 8 1 2 4611686018427387904 0 ∷ proc 1 8 1 2 full ∷ []) (link 8 3 99 4 ∷ link 8 3 99 2 ∷ link 8 1 99 3 ∷ []) (into 8 1 1 1 ∷ into 8 1 1 1 ∷ inner 8 3 1 1 1 ∷ into 8 2 1 1 ∷ inner 8 2 2 3 1 ∷ [])
     (0 ∷ 0x3e112e0be826d695 ∷ 0x4028b0a3d70a3d71 ∷ 0 ∷ 0x401c000000000000 ∷ 0x3e112e0be826d695 ∷ [])
     (inject 0 0 8 2 0x3fb999999999999a 3 ∷ job 8 2 1 ∷ job 8 4 1 ∷ job 8 1 2 ∷ inject 0 0 8 1 0x3fd2492492492492 3 ∷ until 0x4010000000000000 5 ∷ look ∷ steps 3 ∷ look ∷ steps 3 ∷ [])
@@ -149,10 +138,10 @@ pub case-038 :
     (reached 5 [] 0x4028b0a3d712d477 3 ∷ holds (c0 ∷ p0 ∷ b0 ∷ pPassive 0 (2 ∷ 3 ∷ 3 ∷ []) ∷ []) [] ∷ ran 3 [] 0x4028b0a3d712d477 5 ∷ holds (c0 ∷ p0 ∷ b0 ∷ pActive 0x401c000000000000 (3 ∷ 3 ∷ []) ∷ []) [] ∷ ran 3 [] 0x40335851eb8db5bf 6 ∷ [])
     (c0 ∷ p0 ∷ b0 ∷ pPassive 0 [] ∷ []) []
 unfolding play
-case-038 = refl
+case-037 = refl
 
 -- 100047
-pub case-039 :
+pub case-038 :
     play (bat 9 0 1 1 4 0 ∷ proc 7 0 1 2 8 ∷ bat 2 0 1 1 3 0x4004000000000000 ∷ most 1 0 1 2 4 2 ∷ proc 8 0 1 1 1 ∷ proc 3 0 1 2 8 ∷ bat 4 0 1 1 3 0 ∷ []) (link 3 2 7 1 ∷ link 9 1 3 1 ∷ link 7 2 1 2 ∷ link 3 2 4 2 ∷ link 2 1 7 1 ∷ link 1 2 1 2 ∷ link 9 1 1 4 ∷ link 3 2 1 1 ∷ link 1 2 7 1 ∷ link 3 2 2 4 ∷ []) []
     (0x4028b0a3d70a3d71 ∷ 0x4004000000000000 ∷ 0x3fe6666666666666 ∷ 0x401c000000000000 ∷ [])
     (inject 0 0 8 1 0x4010000000000000 1 ∷ job 3 1 1 ∷ job 3 1 2 ∷ inject 5 3 2 3 0 1 ∷ job 7 1 1 ∷ job 1 2 3 ∷ until 0x3fb999999999999a 502 ∷ look ∷ job 1 1 3 ∷ until 0x3ffb333333333333 3 ∷ look ∷ step ∷ look ∷ step ∷ look ∷ steps 2 ∷ [])
@@ -160,10 +149,10 @@ pub case-039 :
     (reached 2 [] 0x3fe6666666666666 3 ∷ holds (b0 ∷ pActive 0x40274a3d70a3d70b (1 ∷ []) ∷ bBatching 0x3ffccccccccccccd (1 ∷ []) ∷ sPassive inf ((3, none, some 0) ∷ []) ∷ pActive 0x3ffccccccccccccd (1 ∷ []) ∷ pPassive 0 (2 ∷ []) ∷ b0 ∷ []) ((3, 2, 7, 1, 0x3fe6666666666666, 1) ∷ (3, 2, 4, 2, 0x3fe6666666666666, 1) ∷ (3, 2, 1, 1, 0x3fe6666666666666, 1) ∷ (3, 2, 2, 4, 0x3fe6666666666666, 1) ∷ []) ∷ reached 2 [] 0x4004000000000000 4 ∷ holds (b0 ∷ pActive 0x4023b0a3d70a3d71 (1 ∷ 1 ∷ []) ∷ b0 ∷ sPassive inf ((3, some 0x3fe6666666666666, some 0) ∷ (1, some 0x3fe6666666666666, none) ∷ []) ∷ pPassive 0 [] ∷ pActive 0x4014cccccccccccd (2 ∷ []) ∷ b0 ∷ []) ((2, 1, 7, 1, 0x4004000000000000, 1) ∷ (2, 1, 7, 1, 0x4004000000000000, 1) ∷ []) ∷ ran 1 [] 0x4004000000000000 4 ∷ holds (b0 ∷ pActive 0x4023b0a3d70a3d71 (1 ∷ 1 ∷ 1 ∷ 1 ∷ []) ∷ b0 ∷ sPassive inf ((3, some 0x3fe6666666666666, some 0) ∷ (1, some 0x3fe6666666666666, none) ∷ []) ∷ p0 ∷ pActive 0x4014cccccccccccd (2 ∷ []) ∷ b0 ∷ []) [] ∷ ran 1 ((3, 2, 7, 1, 0x401ecccccccccccd, 2) ∷ (3, 2, 4, 2, 0x401ecccccccccccd, 2) ∷ (3, 2, 1, 1, 0x401ecccccccccccd, 2) ∷ (3, 2, 2, 4, 0x401ecccccccccccd, 2) ∷ []) 0x401ecccccccccccd 4 ∷ holds (b0 ∷ pActive 0x4012947ae147ae15 (1 ∷ 1 ∷ 1 ∷ 1 ∷ []) ∷ b0 ∷ sPassive inf ((3, some 0x3fe6666666666666, some 0) ∷ (1, some 0x3fe6666666666666, none) ∷ []) ∷ p0 ∷ pPassive 0 [] ∷ b0 ∷ []) ((3, 2, 7, 1, 0x401ecccccccccccd, 2) ∷ (3, 2, 4, 2, 0x401ecccccccccccd, 2) ∷ (3, 2, 1, 1, 0x401ecccccccccccd, 2) ∷ (3, 2, 2, 4, 0x401ecccccccccccd, 2) ∷ []) ∷ ran 2 ((2, 1, 7, 1, 0x4024666666666666, 2) ∷ []) 0x4024666666666666 4 ∷ [])
     (b0 ∷ pActive 0x400128f5c28f5c2a (1 ∷ 1 ∷ 1 ∷ 1 ∷ 2 ∷ []) ∷ b0 ∷ sPassive inf ((3, some 0x3fe6666666666666, some 0) ∷ (1, some 0x3fe6666666666666, none) ∷ (2, some 0x401ecccccccccccd, none) ∷ []) ∷ p0 ∷ p0 ∷ b0 ∷ []) ((2, 1, 7, 1, 0x4024666666666666, 2) ∷ [])
 unfolding play
-case-039 = refl
+case-038 = refl
 
 -- 100048
-pub case-040 :
+pub case-039 :
     play (bat 3 0 1 2 1 0x401c000000000000 ∷ proc 2 0 1 2 full ∷ []) (link 2 2 99 2 ∷ link 3 2 99 2 ∷ link 2 2 99 1 ∷ link 3 2 2 1 ∷ link 3 2 99 3 ∷ []) []
     (0 ∷ 0 ∷ [])
     (inject 5 3 3 1 0 3 ∷ job 2 1 1 ∷ job 2 1 1 ∷ job 2 1 3 ∷ step ∷ look ∷ steps 1 ∷ look ∷ job 3 1 2 ∷ job 2 3 2 ∷ job 3 4 2 ∷ reset-global-time ∷ put-in (coup 2 0 ∷ proc 8 2 1 2 2 ∷ proc 6 2 1 2 2 ∷ proc 9 2 1 2 full ∷ []) (link 2 1 99 4 ∷ link 8 2 2 1 ∷ link 2 1 2 2 ∷ []) (into 2 1 8 1 ∷ inner 2 9 2 8 1 ∷ inner 2 9 2 6 1 ∷ inner 2 6 2 8 1 ∷ into 2 2 6 1 ∷ inner 2 8 2 8 1 ∷ []) ∷ step ∷ [])
@@ -171,10 +160,10 @@ pub case-040 :
     (ran 1 ((3, 2, 99, 2, 0, 3) ∷ (3, 2, 2, 1, 0, 3) ∷ (3, 2, 99, 3, 0, 3) ∷ (2, 2, 99, 2, 0, 1) ∷ (2, 2, 99, 1, 0, 1) ∷ []) 0 1 ∷ holds (b0 ∷ pPassive 0 (1 ∷ 3 ∷ []) ∷ []) ((3, 2, 99, 2, 0, 3) ∷ (3, 2, 2, 1, 0, 3) ∷ (3, 2, 99, 3, 0, 3) ∷ (2, 2, 99, 2, 0, 1) ∷ (2, 2, 99, 1, 0, 1) ∷ []) ∷ ran 1 [] 0 2 ∷ holds (b0 ∷ pActive 0 (1 ∷ 3 ∷ 3 ∷ []) ∷ []) [] ∷ ran 1 [] 0 2 ∷ [])
     (c0 ∷ p0 ∷ p0 ∷ p0 ∷ []) []
 unfolding play
-case-040 = refl
+case-039 = refl
 
 -- 100049
-pub case-041 :
+pub case-040 :
     play (coup 4096 0 ∷ coup 256 4096 ∷ bat 65534 256 1 1 3 0x4004000000000000 ∷ proc 255 256 1 1 2 ∷ []) (link 4096 2 99 2 ∷ link 4096 1 4096 1 ∷ link 4096 1 4096 1 ∷ []) (inner 4096 256 2 256 1 ∷ out 4096 256 2 1 ∷ inner 256 65534 1 65534 4 ∷ into 4096 1 256 1 ∷ into 256 1 65534 2 ∷ inner 256 255 1 65534 3 ∷ inner 256 255 1 98 2 ∷ out 256 255 1 2 ∷ inner 4096 256 2 98 3 ∷ out 4096 256 2 2 ∷ inner 4096 256 2 256 1 ∷ [])
     (0x3ff0000000000000 ∷ 0x4028b0a3d70a3d71 ∷ 0 ∷ [])
     (inject 0 0 4096 1 0x4028b0a3d70a3d71 3 ∷ inject 65535 3 4096 1 0x4004000000000000 3 ∷ steps 2 ∷ look ∷ job 4096 1 1 ∷ job 4096 1 3 ∷ put-in (most 4096 0 4 1 2 1 ∷ proc 257 0 1 1 2 ∷ proc 32768 0 1 1 full ∷ proc 255 0 1 2 1 ∷ bat 1 0 1 2 4611686018427387904 0x4004000000000000 ∷ bat 256 0 1 1 2 0 ∷ coup 2 0 ∷ []) (link 32768 1 256 2 ∷ link 4096 1 255 1 ∷ link 256 1 4096 4 ∷ link 257 1 4096 1 ∷ link 255 2 32768 1 ∷ link 256 1 257 1 ∷ link 257 1 32768 1 ∷ link 1 2 4096 2 ∷ link 2 4 32768 1 ∷ link 256 1 4096 2 ∷ link 257 1 1 2 ∷ link 4096 1 257 1 ∷ []) [] ∷ inject 0 0 32768 1 0x4004000000000000 2 ∷ inject 0 0 255 1 0x4010000000000000 1 ∷ job 256 4 3 ∷ until 0x4004cccccccccccd 2 ∷ [])
@@ -182,10 +171,10 @@ pub case-041 :
     (ran 2 [] 0x4004000000000000 0 ∷ holds (c0 ∷ parks ((65534, 4, 3) ∷ (65534, 4, 3) ∷ []) ∷ b0 ∷ p0 ∷ []) [] ∷ spent 2 ((256, 1, 4096, 4, 0x4004000000000000, 3) ∷ (256, 1, 257, 1, 0x4004000000000000, 3) ∷ (256, 1, 4096, 2, 0x4004000000000000, 3) ∷ (4096, 1, 255, 1, 0x4004000000000000, 3) ∷ (4096, 1, 257, 1, 0x4004000000000000, 3) ∷ (257, 1, 4096, 1, 0x4004000000000000, 3) ∷ (257, 1, 32768, 1, 0x4004000000000000, 3) ∷ (257, 1, 1, 2, 0x4004000000000000, 3) ∷ []) 0x4004000000000000 3 ∷ [])
     (sPassive inf ((1, none, some 0x4004000000000000) ∷ (3, some 0x4004000000000000, some 0x4004000000000000) ∷ []) ∷ pPassive 0 [] ∷ pActive 0x3ff0000000000000 (2 ∷ []) ∷ pActive 0x4028b0a3d70a3d71 (1 ∷ []) ∷ b0 ∷ b0 ∷ c0 ∷ []) ((4096, 1, 255, 1, 0x4004000000000000, 3) ∷ (4096, 1, 257, 1, 0x4004000000000000, 3) ∷ (257, 1, 4096, 1, 0x4004000000000000, 3) ∷ (257, 1, 32768, 1, 0x4004000000000000, 3) ∷ (257, 1, 1, 2, 0x4004000000000000, 3) ∷ [])
 unfolding play
-case-041 = refl
+case-040 = refl
 
 -- 100050
-pub case-042 :
+pub case-041 :
     play (bat 1 0 1 1 1 0x3e112e0be826d695 ∷ proc 9 0 1 1 8 ∷ least 2 0 2 3 4 2 ∷ proc 6 0 1 2 2 ∷ []) (link 1 1 1 4 ∷ link 6 2 9 1 ∷ link 9 1 2 4 ∷ link 1 1 2 2 ∷ link 2 2 6 1 ∷ link 6 2 1 2 ∷ link 9 1 99 3 ∷ link 9 1 9 1 ∷ link 6 2 2 3 ∷ link 6 2 2 2 ∷ []) []
     (0x401c000000000000 ∷ 0x4010000000000000 ∷ 0x3fb999999999999a ∷ [])
     (job 9 1 2147483648 ∷ step ∷ look ∷ steps 2 ∷ look ∷ step ∷ look ∷ step ∷ [])
@@ -193,10 +182,10 @@ pub case-042 :
     (ran 1 [] 0 1 ∷ holds (b0 ∷ pActive 0x401c000000000000 (2147483648 ∷ []) ∷ s0 ∷ p0 ∷ []) [] ∷ ran 2 ((9, 1, 2, 4, 0x401c000000000000, 2147483648) ∷ (9, 1, 99, 3, 0x401c000000000000, 2147483648) ∷ (9, 1, 9, 1, 0x401c000000000000, 2147483648) ∷ []) 0x401c000000000000 2 ∷ holds (b0 ∷ pActive 0x4010000000000000 (2147483648 ∷ []) ∷ s0 ∷ p0 ∷ []) [] ∷ ran 1 ((9, 1, 2, 4, 0x4026000000000000, 2147483648) ∷ (9, 1, 99, 3, 0x4026000000000000, 2147483648) ∷ (9, 1, 9, 1, 0x4026000000000000, 2147483648) ∷ []) 0x4026000000000000 2 ∷ holds (b0 ∷ pPassive 0 [] ∷ s0 ∷ p0 ∷ []) ((9, 1, 2, 4, 0x4026000000000000, 2147483648) ∷ (9, 1, 99, 3, 0x4026000000000000, 2147483648) ∷ (9, 1, 9, 1, 0x4026000000000000, 2147483648) ∷ []) ∷ ran 1 [] 0x4026000000000000 3 ∷ [])
     (b0 ∷ pActive 0x3fb999999999999a (2147483648 ∷ []) ∷ s0 ∷ p0 ∷ []) []
 unfolding play
-case-042 = refl
+case-041 = refl
 
 -- 100051
-pub case-043 :
+pub case-042 :
     play (bat 2 0 1 2 4 0x4004000000000000 ∷ bat 4 0 1 1 2 0x3ff0000000000000 ∷ []) (link 4 1 2 1 ∷ link 2 2 4 4 ∷ link 2 2 4 3 ∷ link 4 1 2 4 ∷ []) []
     []
     (job 2 2 3 ∷ job 4 1 2 ∷ job 2 4 2 ∷ until 0x4024000000000000 0 ∷ look ∷ step ∷ look ∷ steps 3 ∷ [])
@@ -204,10 +193,10 @@ pub case-043 :
     (spent 0 [] 0 0 ∷ holds (b0 ∷ b0 ∷ []) ((0, 0, 2, 2, 0, 3) ∷ (0, 0, 4, 1, 0, 2) ∷ (0, 0, 2, 4, 0, 2) ∷ []) ∷ ran 1 [] 0 0 ∷ holds (bBatching 0x4004000000000000 (3 ∷ 2 ∷ []) ∷ bBatching 0x3ff0000000000000 (2 ∷ []) ∷ []) [] ∷ ran 3 ((4, 1, 2, 1, 0x3ff0000000000000, 2) ∷ (4, 1, 2, 4, 0x3ff0000000000000, 2) ∷ (2, 2, 4, 4, 0x3ff0000000000000, 3) ∷ (2, 2, 4, 3, 0x3ff0000000000000, 3) ∷ (2, 2, 4, 4, 0x3ff0000000000000, 2) ∷ (2, 2, 4, 3, 0x3ff0000000000000, 2) ∷ (2, 2, 4, 4, 0x3ff0000000000000, 2) ∷ (2, 2, 4, 3, 0x3ff0000000000000, 2) ∷ (2, 2, 4, 4, 0x3ff0000000000000, 2) ∷ (2, 2, 4, 3, 0x3ff0000000000000, 2) ∷ (4, 1, 2, 1, 0x3ff0000000000000, 3) ∷ (4, 1, 2, 4, 0x3ff0000000000000, 3) ∷ (4, 1, 2, 1, 0x3ff0000000000000, 3) ∷ (4, 1, 2, 4, 0x3ff0000000000000, 3) ∷ []) 0x3ff0000000000000 0 ∷ [])
     (b0 ∷ bRelease 0 (2 ∷ 2 ∷ 2 ∷ 2 ∷ 2 ∷ 2 ∷ []) ∷ []) ((4, 1, 2, 1, 0x3ff0000000000000, 3) ∷ (4, 1, 2, 4, 0x3ff0000000000000, 3) ∷ (4, 1, 2, 1, 0x3ff0000000000000, 3) ∷ (4, 1, 2, 4, 0x3ff0000000000000, 3) ∷ [])
 unfolding play
-case-043 = refl
+case-042 = refl
 
 -- 100053
-pub case-044 :
+pub case-043 :
     play (bat 4 0 1 1 1 0x3fb999999999999a ∷ proc 8 0 1 2 1 ∷ proc 7 0 1 2 full ∷ bat 1 0 1 1 3 0 ∷ []) (link 7 2 8 1 ∷ link 8 2 7 1 ∷ []) []
     (0 ∷ 0x4004000000000000 ∷ 0x3fe6666666666666 ∷ 0x3fb999999999999a ∷ 0x4004000000000000 ∷ [])
     (job 4 4 2 ∷ inject 0 0 8 1 0x4010000000000000 1 ∷ job 8 1 1 ∷ step ∷ look ∷ steps 2 ∷ look ∷ until 0x401a000000000000 5 ∷ [])
@@ -215,10 +204,10 @@ pub case-044 :
     (ran 1 ((8, 2, 7, 1, 0, 1) ∷ []) 0 1 ∷ holds (b0 ∷ pPassive 0 [] ∷ p0 ∷ b0 ∷ []) ((8, 2, 7, 1, 0, 1) ∷ []) ∷ ran 2 ((7, 2, 8, 1, 0x4004000000000000, 1) ∷ []) 0x4004000000000000 2 ∷ holds (b0 ∷ p0 ∷ pPassive 0 [] ∷ b0 ∷ []) ((7, 2, 8, 1, 0x4004000000000000, 1) ∷ []) ∷ spent 5 ((8, 2, 7, 1, 0x400999999999999a, 1) ∷ (7, 2, 8, 1, 0x400a666666666667, 1) ∷ []) 0x400a666666666667 5 ∷ [])
     (b0 ∷ pActive 0x4004000000000000 (1 ∷ []) ∷ p0 ∷ b0 ∷ []) []
 unfolding play
-case-044 = refl
+case-043 = refl
 
 -- 100054
-pub case-045 :
+pub case-044 :
     play (most 32768 0 4 1 3 1 ∷ proc 256 0 1 1 2 ∷ proc 4096 0 1 2 full ∷ proc 65535 0 1 1 full ∷ bat 2 0 1 2 1 0x4004000000000000 ∷ proc 65534 0 1 1 3 ∷ []) (link 256 1 32768 3 ∷ link 65534 1 4096 1 ∷ link 4096 2 32768 4 ∷ link 2 2 4096 1 ∷ link 32768 1 256 1 ∷ []) []
     (0x3fe6666666666666 ∷ 0x3fb999999999999a ∷ 0x3e112e0be826d695 ∷ 0x3fd2492492492492 ∷ 0x4010000000000000 ∷ 0x3fe6666666666666 ∷ 0x3fb999999999999a ∷ [])
     (inject 0 0 256 1 0x3fd3333333333333 1 ∷ inject 0 0 65535 1 0x3fb999999999999a 3 ∷ job 65535 1 3 ∷ job 65534 1 1 ∷ until 0x4004000000000000 11 ∷ look ∷ step ∷ look ∷ job 32768 1 2 ∷ inject 5 3 65534 1 0 1 ∷ step ∷ [])
@@ -226,10 +215,10 @@ pub case-045 :
     (reached 10 ((65534, 1, 4096, 1, 0x3e112e0be826d695, 1) ∷ (4096, 2, 32768, 4, 0x3fd24924935c0550, 1) ∷ (256, 1, 32768, 3, 0x3fe6666666666666, 1) ∷ []) 0x4010666666666667 5 ∷ holds (sPassive inf ((1, some 0x3fd24924935c0550, none) ∷ []) ∷ p0 ∷ p0 ∷ pPassive 0 [] ∷ b0 ∷ p0 ∷ []) [] ∷ ran 1 [] 0x4010666666666667 5 ∷ holds (sPassive inf ((1, some 0x3fd24924935c0550, none) ∷ []) ∷ p0 ∷ p0 ∷ p0 ∷ b0 ∷ p0 ∷ []) [] ∷ ran 1 [] 0x4010666666666667 6 ∷ [])
     (sPassive inf ((1, some 0x3fd24924935c0550, none) ∷ (2, none, some 0x4010666666666667) ∷ []) ∷ p0 ∷ p0 ∷ p0 ∷ b0 ∷ pActive 0x3fe6666666666666 (1 ∷ []) ∷ []) []
 unfolding play
-case-045 = refl
+case-044 = refl
 
 -- 100055
-pub case-046 :
+pub case-045 :
     play (coup 257 0 ∷ coup 65534 257 ∷ bat 255 65534 1 1 2 0x4010000000000000 ∷ bat 2 0 1 1 3 0x401c000000000000 ∷ bat 32768 257 1 2 3 0x3fe6666666666666 ∷ proc 65535 257 1 1 full ∷ []) (link 2 1 99 1 ∷ link 2 1 257 2 ∷ []) (into 65534 1 255 4 ∷ into 65534 2 255 2 ∷ inner 257 65535 1 65535 1 ∷ into 257 1 65535 1 ∷ inner 65534 255 1 255 3 ∷ out 65534 255 1 2 ∷ inner 257 65535 1 65535 1 ∷ [])
     (0x401c000000000000 ∷ 0x3fe6666666666666 ∷ [])
     (job 2 1 3 ∷ job 2 2 1 ∷ job 257 1 3 ∷ job 257 1 2 ∷ job 2 1 1 ∷ steps 3 ∷ look ∷ step ∷ [])
@@ -237,10 +226,10 @@ pub case-046 :
     (ran 3 ((2, 1, 99, 1, 0, 3) ∷ (2, 1, 257, 2, 0, 3) ∷ (2, 1, 99, 1, 0, 1) ∷ (2, 1, 257, 2, 0, 1) ∷ (2, 1, 99, 1, 0, 1) ∷ (2, 1, 257, 2, 0, 1) ∷ []) 0x401c000000000000 1 ∷ holds (parks ((65535, 1, 3) ∷ (65535, 1, 3) ∷ []) ∷ c0 ∷ b0 ∷ b0 ∷ b0 ∷ pPassive 0 (2 ∷ []) ∷ []) [] ∷ ran 1 [] 0x401c000000000000 2 ∷ [])
     (c0 ∷ c0 ∷ b0 ∷ b0 ∷ b0 ∷ pActive 0x3fe6666666666666 (2 ∷ 3 ∷ 3 ∷ []) ∷ []) []
 unfolding play
-case-046 = refl
+case-045 = refl
 
 -- 100056
-pub case-047 :
+pub case-046 :
     play (proc 4096 0 1 2 3 ∷ coup 255 0 ∷ least 1 255 2 3 4 1 ∷ bat 257 255 1 2 4 0x3fd5555555555555 ∷ proc 65534 255 1 1 2 ∷ bat 65535 255 1 1 2 0x3fe6666666666666 ∷ []) (link 4096 2 255 3 ∷ link 255 1 255 1 ∷ link 4096 2 255 1 ∷ []) (out 255 65535 1 1 ∷ into 255 1 65534 1 ∷ into 255 3 1 4 ∷ out 255 65534 1 1 ∷ into 255 1 257 1 ∷ into 255 1 1 2 ∷ into 255 2 1 3 ∷ [])
     (0x4004000000000000 ∷ 0x4004000000000000 ∷ [])
     (inject 0 0 255 1 0x3e112e0be826d695 3 ∷ step ∷ look ∷ steps 2 ∷ look ∷ step ∷ [])
@@ -248,10 +237,10 @@ pub case-047 :
     (ran 1 [] 0 1 ∷ holds (p0 ∷ c0 ∷ sPassive inf ((3, some 0, none) ∷ []) ∷ bBatching 0x3fd5555555555555 (3 ∷ []) ∷ pActive 0x4004000000000000 (3 ∷ []) ∷ b0 ∷ []) [] ∷ ran 2 ((255, 1, 255, 1, 0x4004000000000000, 3) ∷ []) 0x4004000000000000 1 ∷ holds (p0 ∷ c0 ∷ sPassive inf ((3, some 0, none) ∷ []) ∷ b0 ∷ pPassive 0 [] ∷ b0 ∷ []) ((255, 1, 255, 1, 0x4004000000000000, 3) ∷ []) ∷ ran 1 [] 0x4004000000000000 2 ∷ [])
     (p0 ∷ c0 ∷ sPassive inf ((3, some 0x4004000000000000, none) ∷ []) ∷ bBatching 0x3fd5555555555555 (3 ∷ []) ∷ pActive 0x4004000000000000 (3 ∷ []) ∷ b0 ∷ []) []
 unfolding play
-case-047 = refl
+case-046 = refl
 
 -- 100057
-pub case-048 :
+pub case-047 :
     play (proc 2 0 1 1 3 ∷ coup 4096 0 ∷ coup 256 4096 ∷ coup 257 256 ∷ proc 65534 0 1 1 1 ∷ bat 32768 257 1 1 1 0x4004000000000000 ∷ proc 255 257 1 2 8 ∷ []) (link 65534 1 99 3 ∷ link 4096 1 65534 1 ∷ link 32768 1 4096 4 ∷ link 4096 2 65534 1 ∷ link 2 1 65534 1 ∷ []) (into 256 2 257 2 ∷ out 257 32768 1 2 ∷ out 4096 256 1 2 ∷ out 257 255 2 2 ∷ inner 257 255 2 32768 2 ∷ into 257 1 32768 3 ∷ into 257 1 32768 2 ∷ into 4096 1 256 4 ∷ inner 256 257 2 257 1 ∷ into 257 2 255 1 ∷ out 4096 256 1 1 ∷ out 256 257 2 1 ∷ into 4096 1 256 1 ∷ inner 256 257 2 98 3 ∷ into 256 1 257 1 ∷ out 257 32768 1 1 ∷ [])
     (0x401c000000000000 ∷ 0x3fb999999999999a ∷ 0x3ff0000000000000 ∷ [])
     (inject 0 0 2 1 0x401c000000000000 0 ∷ job 4096 1 2147483648 ∷ job 4096 1 0 ∷ steps 1 ∷ look ∷ job 2 1 7 ∷ status 65534 ∷ job 4096 1 4294967295 ∷ steps 0 ∷ look ∷ step ∷ look ∷ step ∷ look ∷ until 0x3fb999999999999a 5 ∷ [])
@@ -259,10 +248,10 @@ pub case-048 :
     (ran 1 ((4096, 2, 65534, 1, 0, 2147483648) ∷ (4096, 1, 65534, 1, 0, 2147483648) ∷ []) 0 1 ∷ holds (pActive 0x401c000000000000 (0 ∷ []) ∷ c0 ∷ parks ((257, 1, 2147483648) ∷ (98, 3, 2147483648) ∷ []) ∷ c0 ∷ p0 ∷ bRelease 0 (2147483648 ∷ 0 ∷ 0 ∷ []) ∷ p0 ∷ []) ((4096, 2, 65534, 1, 0, 2147483648) ∷ (4096, 1, 65534, 1, 0, 2147483648) ∷ []) ∷ says (OfProcessor working.Passive) ∷ ran 0 [] 0 1 ∷ holds (pActive 0x401c000000000000 (0 ∷ []) ∷ c0 ∷ parks ((257, 1, 2147483648) ∷ (98, 3, 2147483648) ∷ []) ∷ c0 ∷ p0 ∷ bRelease 0 (2147483648 ∷ 0 ∷ 0 ∷ []) ∷ p0 ∷ []) ((4096, 2, 65534, 1, 0, 2147483648) ∷ (4096, 1, 65534, 1, 0, 2147483648) ∷ (0, 0, 2, 1, 0, 7) ∷ (0, 0, 4096, 1, 0, 4294967295) ∷ []) ∷ ran 1 ((4096, 2, 65534, 1, 0, 2147483648) ∷ (4096, 1, 65534, 1, 0, 2147483648) ∷ []) 0 2 ∷ holds (pActive 0x401c000000000000 (0 ∷ 7 ∷ []) ∷ c0 ∷ parks ((257, 1, 2147483648) ∷ (98, 3, 2147483648) ∷ []) ∷ c0 ∷ pActive 0x3fb999999999999a (2147483648 ∷ []) ∷ bRelease 0 (0 ∷ 0 ∷ 4294967295 ∷ 4294967295 ∷ 2147483648 ∷ 2147483648 ∷ []) ∷ p0 ∷ []) ((4096, 2, 65534, 1, 0, 2147483648) ∷ (4096, 1, 65534, 1, 0, 2147483648) ∷ []) ∷ ran 1 ((4096, 2, 65534, 1, 0, 0) ∷ (4096, 1, 65534, 1, 0, 0) ∷ []) 0 2 ∷ holds (pActive 0x401c000000000000 (0 ∷ 7 ∷ []) ∷ c0 ∷ parks ((257, 1, 0) ∷ (98, 3, 0) ∷ []) ∷ c0 ∷ pActive 0x3fb999999999999a (2147483648 ∷ []) ∷ bRelease 0 (0 ∷ 4294967295 ∷ 4294967295 ∷ 2147483648 ∷ 2147483648 ∷ 2147483648 ∷ 2147483648 ∷ []) ∷ p0 ∷ []) ((4096, 2, 65534, 1, 0, 0) ∷ (4096, 1, 65534, 1, 0, 0) ∷ []) ∷ spent 5 ((4096, 2, 65534, 1, 0, 0) ∷ (4096, 1, 65534, 1, 0, 0) ∷ (4096, 2, 65534, 1, 0, 4294967295) ∷ (4096, 1, 65534, 1, 0, 4294967295) ∷ (4096, 2, 65534, 1, 0, 4294967295) ∷ (4096, 1, 65534, 1, 0, 4294967295) ∷ (4096, 2, 65534, 1, 0, 2147483648) ∷ (4096, 1, 65534, 1, 0, 2147483648) ∷ (4096, 2, 65534, 1, 0, 2147483648) ∷ (4096, 1, 65534, 1, 0, 2147483648) ∷ []) 0 2 ∷ [])
     (pActive 0x401c000000000000 (0 ∷ 7 ∷ []) ∷ c0 ∷ parks ((257, 1, 2147483648) ∷ (98, 3, 2147483648) ∷ []) ∷ c0 ∷ pActive 0x3fb999999999999a (2147483648 ∷ []) ∷ bRelease 0 (2147483648 ∷ 2147483648 ∷ 0 ∷ 0 ∷ 0 ∷ 0 ∷ 4294967295 ∷ 4294967295 ∷ 4294967295 ∷ 4294967295 ∷ 2147483648 ∷ 2147483648 ∷ []) ∷ p0 ∷ []) ((4096, 2, 65534, 1, 0, 2147483648) ∷ (4096, 1, 65534, 1, 0, 2147483648) ∷ [])
 unfolding play
-case-048 = refl
+case-047 = refl
 
 -- 100058
-pub case-049 :
+pub case-048 :
     play (coup 5 0 ∷ coup 3 5 ∷ coup 1 3 ∷ most 2 5 2 3 1 2 ∷ bat 4 0 1 1 4 0x3fd5555555555555 ∷ []) (link 5 2 5 1 ∷ link 4 1 99 3 ∷ link 5 2 4 3 ∷ link 4 1 5 2 ∷ link 4 1 4 4 ∷ []) (into 5 1 2 2 ∷ inner 3 1 3 1 1 ∷ inner 3 1 3 1 4 ∷ out 5 2 2 2 ∷ out 5 3 1 2 ∷ out 3 1 3 1 ∷ into 5 2 2 3 ∷ into 3 2 1 1 ∷ into 5 2 3 3 ∷ into 3 1 1 1 ∷ into 3 2 1 2 ∷ out 3 1 2 1 ∷ into 5 1 3 3 ∷ into 5 3 2 1 ∷ [])
     (0x3fe6666666666666 ∷ [])
     (steps 0 ∷ [])
@@ -270,15 +259,26 @@ pub case-049 :
     (ran 0 [] 0 0 ∷ [])
     (c0 ∷ c0 ∷ c0 ∷ s0 ∷ b0 ∷ []) []
 unfolding play
+case-048 = refl
+
+-- 100060
+pub case-049 :
+    play (coup 1 0 ∷ coup 6 1 ∷ coup 4 6 ∷ proc 2 0 0 65535 0 ∷ bat 3 4 0 0 1 0x3fd5555555555555 ∷ proc 8 1 0 0 full ∷ bat 9 1 0 65535 2 0x3ff0000000000000 ∷ []) (link 9 65535 1 0 ∷ link 2 65535 1 32768 ∷ link 1 0 1 0 ∷ link 1 0 2 0 ∷ []) (inner 6 4 0 4 65535 ∷ inner 6 4 0 4 65535 ∷ into 1 0 6 65535 ∷ into 6 65535 4 65535 ∷ inner 1 8 0 98 0 ∷ into 6 0 4 65535 ∷ out 6 4 0 0 ∷ out 4 3 0 0 ∷ into 4 65535 3 65535 ∷ out 1 6 0 0 ∷ into 6 65535 4 65535 ∷ [])
+    (0x3fd3333333333333 ∷ [])
+    (inject 0 0 2 0 0x4010000000000000 7 ∷ job 2 0 0 ∷ job 1 32768 4294967295 ∷ job 1 0 0 ∷ inject 65535 3 1 1 0 7 ∷ inject 0 0 1 0 0x3e112e0be826d695 7 ∷ put-in (coup 6 0 ∷ coup 5 6 ∷ coup 3 5 ∷ proc 8 3 0 65535 3 ∷ proc 9 0 0 0 full ∷ proc 1 6 0 65535 2 ∷ []) (link 6 65535 9 0 ∷ link 6 65535 6 0 ∷ link 9 0 6 0 ∷ link 6 65535 9 0 ∷ []) (out 5 3 65535 0 ∷ inner 6 5 0 5 0 ∷ into 6 0 5 0 ∷ inner 6 5 0 98 1 ∷ out 6 5 0 65535 ∷ into 3 0 8 65000 ∷ into 5 0 3 65535 ∷ out 3 8 65535 65535 ∷ inner 6 5 0 5 0 ∷ into 6 0 1 0 ∷ inner 6 1 65535 5 0 ∷ out 5 3 0 0 ∷ into 5 0 3 0 ∷ []) ∷ step ∷ look ∷ inject 5 3 9 0 0 0 ∷ inject 0 0 6 0 0x3fd3333333333333 2147483648 ∷ step ∷ [])
+    ≡ seen
+    (ran 1 [] 0 0 ∷ holds (c0 ∷ c0 ∷ c0 ∷ p0 ∷ p0 ∷ p0 ∷ []) [] ∷ stopped 5 0 [] 0 0 ∷ [])
+    (c0 ∷ c0 ∷ c0 ∷ p0 ∷ p0 ∷ p0 ∷ []) ((5, 3, 9, 0, 0, 0) ∷ (0, 0, 6, 0, 0x3fd3333333333333, 2147483648) ∷ [])
+unfolding play
 case-049 = refl
 
--- 100059
+-- 100061
 pub case-050 :
-    play (least 8 0 1 2 3 2 ∷ coup 4 0 ∷ most 9 4 3 2 4 2 ∷ coup 6 4 ∷ proc 5 6 1 1 3 ∷ bat 2 4 1 1 3 0x4028b0a3d70a3d71 ∷ proc 1 6 1 2 0 ∷ []) (link 4 1 8 3 ∷ link 4 1 99 3 ∷ link 8 2 8 1 ∷ link 8 2 8 2 ∷ link 8 2 4 1 ∷ link 8 2 8 3 ∷ link 8 2 4 1 ∷ link 8 2 8 1 ∷ []) (out 6 5 1 1 ∷ inner 4 6 1 9 3 ∷ into 4 1 2 1 ∷ inner 4 2 1 2 2 ∷ into 6 2 5 1 ∷ out 4 9 2 1 ∷ into 6 2 5 1 ∷ out 6 5 1 1 ∷ inner 4 2 1 9 3 ∷ into 4 1 6 4 ∷ inner 6 1 2 98 1 ∷ [])
-    []
-    (job 4 1 2 ∷ until 0x3fb999999999999a 2 ∷ look ∷ inject 0 0 4 1 0x401c000000000000 1 ∷ job 8 1 3 ∷ step ∷ look ∷ step ∷ [])
+    play (coup 1 0 ∷ bat 7 0 1 1 4611686018427387904 0x3ff0000000000000 ∷ coup 2 0 ∷ least 9 0 2 1 4 1 ∷ proc 6 0 1 1 1 ∷ []) (link 2 2 9 2 ∷ link 7 1 9 1 ∷ link 9 1 9 4 ∷ link 7 1 9 1 ∷ link 2 4 6 1 ∷ link 6 1 7 4 ∷ link 9 1 6 1 ∷ link 9 1 9 2 ∷ link 9 1 1 2 ∷ link 2 3 6 1 ∷ []) []
+    (0x3ff0000000000000 ∷ 0x401c000000000000 ∷ 0x4010000000000000 ∷ [])
+    (job 1 4 3 ∷ job 2 4 3 ∷ job 9 1 2 ∷ inject 65535 3 9 2 0x401c000000000000 3 ∷ inject 0 0 6 1 0x401c000000000000 2 ∷ job 1 1 1 ∷ inject 65535 3 1 2 0 1 ∷ job 1 2 2 ∷ inject 5 3 7 4 0 2 ∷ job 6 1 1 ∷ steps 4 ∷ look ∷ step ∷ look ∷ job 6 1 1 ∷ step ∷ look ∷ step ∷ look ∷ steps 3 ∷ look ∷ inject 5 3 7 4 0 3 ∷ until 0x4031000000000000 0 ∷ look ∷ until 0x4024333333333333 502 ∷ [])
     ≡ seen
-    (reached 2 [] 0x4028b0a3d70a3d71 0 ∷ holds (s0 ∷ parks ((2, 2, 2) ∷ (9, 3, 2) ∷ []) ∷ s0 ∷ c0 ∷ p0 ∷ b0 ∷ p0 ∷ []) [] ∷ ran 1 [] 0x4028b0a3d70a3d71 0 ∷ holds (sPassive inf ((3, some 0x4028b0a3d70a3d71, none) ∷ []) ∷ parks ((2, 2, 2) ∷ (9, 3, 2) ∷ []) ∷ s0 ∷ c0 ∷ p0 ∷ bBatching 0x4028b0a3d70a3d71 (1 ∷ []) ∷ p0 ∷ []) [] ∷ ran 1 [] 0x4038b0a3d70a3d71 0 ∷ [])
-    (sPassive inf ((3, some 0x4028b0a3d70a3d71, none) ∷ []) ∷ parks ((2, 2, 1) ∷ (9, 3, 1) ∷ (2, 2, 2) ∷ (9, 3, 2) ∷ []) ∷ sPassive inf ((2, some 0x4038b0a3d70a3d71, none) ∷ []) ∷ c0 ∷ p0 ∷ b0 ∷ p0 ∷ []) []
+    (ran 4 ((7, 1, 9, 1, 0x3ff0000000000000, 2) ∷ (7, 1, 9, 1, 0x3ff0000000000000, 2) ∷ (6, 1, 7, 4, 0x3ff0000000000000, 2) ∷ (7, 1, 9, 1, 0x4000000000000000, 2) ∷ (7, 1, 9, 1, 0x4000000000000000, 2) ∷ []) 0x4000000000000000 1 ∷ holds (c0 ∷ b0 ∷ c0 ∷ sPassive inf ((2, none, some 0x3ff0000000000000) ∷ (3, some 0, none) ∷ []) ∷ p0 ∷ []) ((7, 1, 9, 1, 0x4000000000000000, 2) ∷ (7, 1, 9, 1, 0x4000000000000000, 2) ∷ []) ∷ ran 1 [] 0x4000000000000000 1 ∷ holds (c0 ∷ b0 ∷ c0 ∷ sPassive inf ((2, none, some 0x4000000000000000) ∷ (3, some 0, none) ∷ []) ∷ p0 ∷ []) [] ∷ ran 1 [] 0x4000000000000000 2 ∷ holds (c0 ∷ b0 ∷ c0 ∷ sPassive inf ((2, none, some 0x4000000000000000) ∷ (3, some 0, none) ∷ []) ∷ pActive 0x401c000000000000 (1 ∷ []) ∷ []) [] ∷ ran 1 ((6, 1, 7, 4, 0x4022000000000000, 1) ∷ []) 0x4022000000000000 2 ∷ holds (c0 ∷ b0 ∷ c0 ∷ sPassive inf ((2, none, some 0x4000000000000000) ∷ (3, some 0, none) ∷ []) ∷ pPassive 0 [] ∷ []) ((6, 1, 7, 4, 0x4022000000000000, 1) ∷ []) ∷ ran 3 ((7, 1, 9, 1, 0x4024000000000000, 1) ∷ (7, 1, 9, 1, 0x4024000000000000, 1) ∷ []) 0x4024000000000000 2 ∷ holds (c0 ∷ b0 ∷ c0 ∷ sPassive inf ((2, none, some 0x4000000000000000) ∷ (3, some 0, none) ∷ (1, none, some 0x4024000000000000) ∷ []) ∷ p0 ∷ []) [] ∷ spent 0 [] 0x4024000000000000 2 ∷ holds (c0 ∷ b0 ∷ c0 ∷ sPassive inf ((2, none, some 0x4000000000000000) ∷ (3, some 0, none) ∷ (1, none, some 0x4024000000000000) ∷ []) ∷ p0 ∷ []) ((5, 3, 7, 4, 0, 3) ∷ []) ∷ reached 2 [] 0x4026000000000000 2 ∷ [])
+    (c0 ∷ b0 ∷ c0 ∷ sPassive inf ((2, none, some 0x4000000000000000) ∷ (3, some 0, none) ∷ (1, none, some 0x4024000000000000) ∷ []) ∷ p0 ∷ []) ((7, 1, 9, 1, 0x4026000000000000, 3) ∷ (7, 1, 9, 1, 0x4026000000000000, 3) ∷ [])
 unfolding play
 case-050 = refl
