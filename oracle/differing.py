@@ -208,6 +208,8 @@ class Counts:
         """Counts whether the case leaves the Rust where A3 shows, and what was parked there."""
         if case.cut:
             where = 'cut where A3 shows'
+            self.total['steps asked of the oracle in cases that are cut'] += case.steps_asked
+            self.total['answers of the oracle in cases that are cut'] += case.answers_asked
         elif case.simulation.parted:
             where = 'A3 shows after the oracle\'s part'
         else:
