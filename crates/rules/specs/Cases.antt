@@ -197,7 +197,24 @@ c9 = record {
   then = record { end = Refused Idle; steps = 0; rows = []; states = []; clock = instant; place = 0; active = [] };
 }
 
--- C11 Coupled with batcher (m = 1) feeding an idle processor, one job: it is parked, the next step is refused with 12, and it stays parked.
+-- C11 Coupled with batcher (m = 1) feeding an idle processor, one job: it is parked (as amended by 02's A3:) and the second step hands it over. The processor starts it.
+abbrev pub c11-parked : Case
+c11-parked = record {
+  table = chain;
+  messages = job 1 1 11 ∷ [];
+  services = fourFiveSix;
+  count = 1;
+  then = record {
+    end = Done;
+    steps = 1;
+    rows = [];
+    states = ofCoupled (parkedAt 3 1 11 ∷ []) ∷ noBatch ∷ passive [] never ∷ [];
+    clock = instant;
+    place = 0;
+    active = [];
+  };
+}
+
 abbrev pub c11 : Case
 c11 = record {
   table = chain;
@@ -205,12 +222,12 @@ c11 = record {
   services = fourFiveSix;
   count = 2;
   then = record {
-    end = Refused Idle;
-    steps = 1;
+    end = Done;
+    steps = 2;
     rows = [];
-    states = ofCoupled (parkedAt 3 1 11 ∷ []) ∷ noBatch ∷ passive [] never ∷ [];
+    states = ofCoupled [] ∷ noBatch ∷ active (11 ∷ []) four ∷ [];
     clock = instant;
-    place = 0;
+    place = 1;
     active = [];
   };
 }
@@ -234,9 +251,9 @@ c12 = record {
 }
 
 -- "Proved, as one table under a single statement"
-pub cases : AllHold (c1 ∷ c3 ∷ c3-next ∷ c5 ∷ c6-held ∷ c6 ∷ c8 ∷ c8-next ∷ c9 ∷ c11 ∷ c12 ∷ [])
+pub cases : AllHold (c1 ∷ c3 ∷ c3-next ∷ c5 ∷ c6-held ∷ c6 ∷ c8 ∷ c8-next ∷ c9 ∷ c11-parked ∷ c11 ∷ c12 ∷ [])
 unfolding isTime isTimer leastOf add sub lt le eq fits ofBits toBits service processorExternal processorInternal batcherExternal batcherInternal stopwatchExternal stopwatchInternal timer external internal stepOn intake passesIntake isValid post injectInput steps stepN start outcome
-cases = (refl, (refl, (refl, (refl, (refl, (refl, (refl, (refl, (refl, (refl, (refl, tt)))))))))))
+cases = (refl, (refl, (refl, (refl, (refl, (refl, (refl, (refl, (refl, (refl, (refl, (refl, tt))))))))))))
 
 -- ---- "Run and compared whole: id 1 a batcher (m = 2, batch time 10), id 2 a processor (capacity 8), ports in 1 and out 2, one connector 1:2 to 2:1, service times 4, 5, 6, jobs 11, 12, 13 injected at 1:1"
 abbrev pub line : Table

@@ -393,7 +393,7 @@ module _ (t : Table) (services : List Float) where
 abbrev pub opening : Simulation → World
 opening sim = record { states = sim .states; place = sim .place; log = [] }
 
--- 12: "a step with no active message and every timer infinite"; 11: "the new clock is no time"
+-- 12: "a step with no active message and every timer infinite" (Idle.antt says it of the kept timers and the parked lists); 11: "the new clock is no time"
 abbrev pub stepLines : List Float → Simulation → Lines
 stepLines services sim =
     (Idle, (sim .active ≡ []) × T (isNever (leastTimer (sim .table) (sim .states))))

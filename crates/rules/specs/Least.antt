@@ -9,7 +9,7 @@ use native.Mathlib.Nat.{eq-or-lt-of-le}
 use lib.ListN.{length, getD}
 use lib.Dec.{T}
 use lib.Ieee.{Float, le}
-use Rattle.times.specs.Time.{never, isTimer, leastOf}
+use Rattle.times.specs.Time.{instant, never, isTimer, leastOf}
 use Rattle.times.specs.Laws as law
 use Rattle.rules.specs.Base.{if_then_else_, those, from}
 use Rattle.rules.specs.Table.{Kind, coupled, Row, Table, noRow, rowAt, idAt, kindAt, isParent, isParentless, parentless, components}
@@ -52,13 +52,16 @@ fitted-fits t states g = go (t .rows) states (g .same) (g .fit)
     go (r ∷ rs) [] e h = absurd (omega arith)
     go (r ∷ rs) (s ∷ ss) e h = if-both-i (stateFits (r .kind) s) (statesFit rs ss) (h 0) (go rs ss (omega arith) (λ i. h (suc i)))
 
--- ---- a row's own timer: an atom's, and infinite for a Coupled
+-- ---- a row's own timer: an atom's; a Coupled's is 0 while a message is parked in it, and else infinite
 abbrev pub ownTimer : State → Float
 ownTimer s = timerIn s never
 
 -- at most every row's own timer
 abbrev pub Below : Float → List State → Type 0
 Below a states = (i : ℕ) → T (le a (ownTimer (stateAt states i)))
+
+zero-timer : T (isTimer instant)
+zero-timer = law.time-timer instant law.instant-time
 
 pub fits-timer : (k : Kind) (s : State) → T (stateFits k s) → T (isTimer (ownTimer s))
 fits-timer k s h = go (tells (state-decides k s) h)
@@ -67,25 +70,30 @@ fits-timer k s h = go (tells (state-decides k s) h)
     go (of-processor {s = s} h) = passes (timer-decides (s .timer)) (h .timer)
     go (of-batcher {s = s} h) = passes (timer-decides (s .timer)) (h .timer)
     go (of-stopwatch {s = s} h) = passes (timer-decides (s .timer)) (h .timer)
-    go (of-coupled h) = law.never-timer
+    go (of-coupled {parked = []} h) = law.never-timer
+    go (of-coupled {parked = m ∷ parked} h) = zero-timer
 
 timerIn-either : (P : Float → Type 0) (s : State) (inside : Float) → P (ownTimer s) → P inside → P (timerIn s inside)
 timerIn-either P (ofProcessor s) inside h k = h
 timerIn-either P (ofBatcher s) inside h k = h
 timerIn-either P (ofStopwatch s) inside h k = h
-timerIn-either P (ofCoupled s) inside h k = k
+timerIn-either P (ofCoupled []) inside h k = k
+timerIn-either P (ofCoupled (m ∷ parked)) inside h k = h
 
 timerIn-own : (a : Float) (s : State) (inside : Float) → T (isTimer a) → T (le a (timerIn s inside)) → T (le a (ownTimer s))
 timerIn-own a (ofProcessor s) inside t h = h
 timerIn-own a (ofBatcher s) inside t h = h
 timerIn-own a (ofStopwatch s) inside t h = h
-timerIn-own a (ofCoupled s) inside t h = law.timers-never a t
+timerIn-own a (ofCoupled []) inside t h = law.timers-never a t
+timerIn-own a (ofCoupled (m ∷ parked)) inside t h = h
 
-pub timerIn-coupled : (s : State) (inside : Float) → T (stateFits coupled s) → timerIn s inside ≡ inside
-timerIn-coupled (ofProcessor s) inside h = absurd h
-timerIn-coupled (ofBatcher s) inside h = absurd h
-timerIn-coupled (ofStopwatch s) inside h = absurd h
-timerIn-coupled (ofCoupled s) inside h = refl
+-- what is at most a Coupled's timer is at most that of what is inside
+timerIn-inside : (a : Float) (s : State) (inside : Float) → T (isTimer a) → T (isTimer inside) → T (stateFits coupled s) → T (le a (timerIn s inside)) → T (le a inside)
+timerIn-inside a (ofProcessor s) inside t u f h = absurd f
+timerIn-inside a (ofBatcher s) inside t u f h = absurd f
+timerIn-inside a (ofStopwatch s) inside t u f h = absurd f
+timerIn-inside a (ofCoupled []) inside t u f h = h
+timerIn-inside a (ofCoupled (m ∷ parked)) inside t u f h = law.timers-transitive a instant inside t zero-timer u h (law.timers-instant inside u)
 
 -- ---- the least of a list: a timer, at most each, and the greatest such
 module _ {A : Type 0} (f : A → Float) where
@@ -156,7 +164,7 @@ module _ (t : Table) (ok : Fine t) (states : List State) (g : Fitted t states) w
   unfolding timer
   into d i j l e s h =
       law.timers-transitive (leastTimer t states) (inside d i) (at d j) least-is-timer (inside-timer d i) (at-timer d j)
-      (subst (λ (z : Float). T (le (leastTimer t states) z)) (timerIn-coupled (stateAt states i) (inside d i) (subst (λ (k : Kind). T (stateFits k (stateAt states i))) e (g .fit i))) h)
+      (timerIn-inside (leastTimer t states) (stateAt states i) (inside d i) least-is-timer (inside-timer d i) (subst (λ (k : Kind). T (stateFits k (stateAt states i))) e (g .fit i)) h)
       (among (λ j. isParent (idAt t i) (rowAt t j .parent)) 0 (length (t .rows)) (least-lowest (at d) (all-any (components t (idAt t i)) (at-timer d))) j (omega arith) (omega arith) s)
 
   own : (d i : ℕ) → T (le (leastTimer t states) (at (suc d) i)) → T (le (leastTimer t states) (ownTimer (stateAt states i)))

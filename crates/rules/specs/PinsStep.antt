@@ -13,7 +13,7 @@ use Rattle.rules.specs.declared.Message.{Message}
 use Rattle.rules.specs.Base.{from}
 use Rattle.rules.specs.Table.{coupled, Row, Connector, Coupling, externalInput, externalOutput, internalCoupling, Table}
 use Rattle.rules.specs.Intake.{intake, passesIntake}
-use Rattle.rules.specs.Simulation.{State, ofStopwatch, ofCoupled, Simulation}
+use Rattle.rules.specs.Simulation.{Parked, State, ofStopwatch, ofCoupled, Simulation}
 use Rattle.rules.specs.Models.{Started, Kept, Marked, Asked, Passed, service, processorExternal, processorInternal, batcherExternal, batcherInternal, stopwatchExternal, stopwatchInternal}
 use Rattle.rules.specs.Step.{Happening, came, went, waited, outAt, timer, external, internal, stepOn}
 use Rattle.rules.specs.Valid.{isValid}
@@ -128,7 +128,6 @@ pub record Coupleds : Type 0 where
   -- "Timer: least of its components', infinite with none."
   pub timer-least : stepOf (simulation (tableOf pair [] []) (ofCoupled [] ∷ active (7 ∷ []) two ∷ batch (8 ∷ []) one ∷ ofCoupled [] ∷ []) [] three) .clock ≡ four
   pub timer-none : endOf (simulation (tableOf (row 1 coupled ∷ []) [] []) (ofCoupled [] ∷ []) [] three) ≡ Refused Idle
-  pub timer-parked : endOf (simulation (tableOf pair [] []) (ofCoupled (parkedAt 2 1 7 ∷ []) ∷ passive [] never ∷ noBatch ∷ ofCoupled [] ∷ []) [] three) ≡ Refused Idle
   -- "Internal: parked messages go to their components in component order, then parked order, and the list is emptied (those for no component are lost). Then each component with timer 0 has its internal event, in order."
   pub unparks : stepOf (due [] (ofCoupled (parkedAt 3 1 21 ∷ parkedAt 2 1 22 ∷ parkedAt 9 1 23 ∷ parkedAt 3 1 24 ∷ []) ∷ passive [] never ∷ noBatch ∷ askedWatch ∷ []))
       ≡ record {
@@ -198,7 +197,6 @@ coupleds = record {
   up = refl;
   timer-least = refl;
   timer-none = refl;
-  timer-parked = refl;
   unparks = refl;
   unparks-port = refl;
   not-due = refl;
@@ -212,6 +210,75 @@ coupleds = record {
   parked-65 = refl;
   out-256 = refl;
   out-257 = refl;
+}
+
+-- ---- 02, A3: "a Coupled with any parked message has timer 0"
+-- what is seen after so many steps
+unfoldable pub stepsOf : ℕ → Simulation → Seen
+stepsOf count sim =
+    let r = stepN (four ∷ five ∷ six ∷ []) 256 count sim in
+    record { end = r .end; states = r .sim .states; active = r .sim .active; clock = r .sim .clock; place = r .sim .place; log = r .log }
+
+-- four Coupleds, each in the one before, the innermost's processor at rest, and this parked in each
+abbrev nested : List Parked → List Parked → List Parked → List Parked → Simulation
+nested first second third fourth = simulation (tableOf deep [] deepInputs) (ofCoupled first ∷ ofCoupled second ∷ ofCoupled third ∷ ofCoupled fourth ∷ passive [] never ∷ []) [] three
+
+-- the Coupled 1 with this parked in it, its batcher's timer at 1, and the Coupled 4 beside it
+abbrev waiting : List Parked → Simulation
+waiting parked = simulation (tableOf pair [] []) (ofCoupled parked ∷ passive [] never ∷ batch (8 ∷ []) one ∷ ofCoupled [] ∷ []) [] three
+
+pub record Handings : Type 0 where
+  -- with no component due, the parked message is handed over, and the clock stays
+  pub handed : stepOf (simulation (tableOf pair [] []) (ofCoupled (parkedAt 2 1 7 ∷ []) ∷ passive [] never ∷ noBatch ∷ ofCoupled [] ∷ []) [] three)
+      ≡ record {
+        end = Done;
+        states = ofCoupled [] ∷ active (7 ∷ []) four ∷ noBatch ∷ ofCoupled [] ∷ [];
+        active = [];
+        clock = three;
+        place = 1;
+        log = waited instant ∷ came three 1 1 7 Started ∷ went three 0 [] ∷ [];
+      }
+  -- the Coupled comes before a component whose timer has not run out, and that timer is not cut
+  pub handed-first : stepOf (waiting (parkedAt 2 1 7 ∷ []))
+      ≡ record {
+        end = Done;
+        states = ofCoupled [] ∷ active (7 ∷ []) four ∷ batch (8 ∷ []) one ∷ ofCoupled [] ∷ [];
+        active = [];
+        clock = three;
+        place = 1;
+        log = waited instant ∷ came three 1 1 7 Started ∷ went three 0 [] ∷ [];
+      }
+  -- with messages active too
+  pub handed-beside : logOf (simulation (tableOf pair [] []) (ofCoupled (parkedAt 2 1 7 ∷ []) ∷ passive [] never ∷ noBatch ∷ ofCoupled [] ∷ []) (job 4 1 21 ∷ []) three)
+      ≡ came three 3 1 21 Passed ∷ waited instant ∷ came three 1 1 7 Started ∷ went three 0 [] ∷ []
+  -- parked for no component: the Coupled is due once, the message is lost, and the run goes on
+  pub lost : stepOf (waiting (parkedAt 9 1 7 ∷ []))
+      ≡ record { end = Done; states = waiting [] .states; active = []; clock = three; place = 0; log = waited instant ∷ went three 0 [] ∷ [] }
+  pub lost-goes-on : stepsOf 2 (waiting (parkedAt 9 1 7 ∷ [])) .clock ≡ four
+  pub lost-idle : stepsOf 2 (nested (parkedAt 9 1 7 ∷ []) [] [] []) .end ≡ Refused Idle
+  -- in a Coupled at any depth, each around it is due
+  pub depth-1 : logOf (nested (parkedAt 2 1 7 ∷ []) [] [] [])
+      ≡ waited instant ∷ came three 1 1 7 Passed ∷ came three 2 1 7 Passed ∷ came three 3 1 7 Passed ∷ came three 4 1 7 Started ∷ went three 0 [] ∷ []
+  pub depth-2 : logOf (nested [] (parkedAt 3 1 7 ∷ []) [] []) ≡ waited instant ∷ came three 2 1 7 Passed ∷ came three 3 1 7 Passed ∷ came three 4 1 7 Started ∷ went three 1 [] ∷ went three 0 [] ∷ []
+  pub depth-3 : logOf (nested [] [] (parkedAt 4 1 7 ∷ []) []) ≡ waited instant ∷ came three 3 1 7 Passed ∷ came three 4 1 7 Started ∷ went three 2 [] ∷ went three 1 [] ∷ went three 0 [] ∷ []
+  pub depth-4 : logOf (nested [] [] [] (parkedAt 5 1 7 ∷ [])) ≡ waited instant ∷ came three 4 1 7 Started ∷ went three 3 [] ∷ went three 2 [] ∷ went three 1 [] ∷ went three 0 [] ∷ []
+  -- 12 needs every parked list empty
+  pub none-parked : stepOf (nested [] [] [] []) .end ≡ Refused Idle
+
+pub handings : Handings
+unfolding stepOf stepsOf endOf logOf statesOf activeOf step stepN steps isValid isTime isTimer leastOf add sub lt le eq fits ofBits toBits service processorExternal processorInternal batcherExternal batcherInternal stopwatchExternal stopwatchInternal timer external internal stepOn intake passesIntake
+handings = record {
+  handed = refl;
+  handed-first = refl;
+  handed-beside = refl;
+  lost = refl;
+  lost-goes-on = refl;
+  lost-idle = refl;
+  depth-1 = refl;
+  depth-2 = refl;
+  depth-3 = refl;
+  depth-4 = refl;
+  none-parked = refl;
 }
 
 -- ---- the step: processors 1 and 2, a batcher 3 (m = 1), a Coupled 4 with a batcher 5
@@ -251,17 +318,17 @@ pub record Steps : Type 0 where
   -- service times go in the order in which they are needed
   pub places : statesOf (inHall [] quiet (job 2 1 21 ∷ job 1 1 22 ∷ []) three) ≡ active (22 ∷ []) four ∷ active (21 ∷ []) five ∷ noBatch ∷ ofCoupled [] ∷ noBatch ∷ []
   pub places-kept : stepOf (inHall [] quiet (job 2 1 21 ∷ job 1 1 22 ∷ []) three) .place ≡ 2
-  -- the clock that a stopwatch marks is the step's before the advance, for what was parked the new one
+  -- the clock that a stopwatch marks is the step's before the advance; what was parked is handed over before any timer runs out (02, A3), so it is marked at the clock at which it was parked
   pub watches : stepOf (simulation (tableOf (row 1 (aStopwatch Minimum) ∷ []) [] []) (watch [] ∷ []) (job 1 2 21 ∷ []) three)
       ≡ record { end = Done; states = watch (record { name = 21; start = none; stop = some three } ∷ []) ∷ []; active = []; clock = three; place = 0; log = came three 0 2 21 Marked ∷ waited instant ∷ [] }
   pub watches-parked : stepOf (simulation (tableOf dueRows [] []) (ofCoupled (parkedAt 5 1 21 ∷ []) ∷ passive [] never ∷ batch (22 ∷ []) two ∷ watch [] ∷ []) [] three)
       ≡ record {
         end = Done;
-        states = ofCoupled [] ∷ passive [] never ∷ noBatch ∷ watch (record { name = 21; start = some five; stop = none } ∷ []) ∷ [];
+        states = ofCoupled [] ∷ passive [] never ∷ batch (22 ∷ []) two ∷ watch (record { name = 21; start = some three; stop = none } ∷ []) ∷ [];
         active = [];
-        clock = five;
+        clock = three;
         place = 0;
-        log = waited two ∷ came five 3 1 21 Marked ∷ went five 2 (outAt 2 22 ∷ []) ∷ went five 0 [] ∷ [];
+        log = waited instant ∷ came three 3 1 21 Marked ∷ went three 0 [] ∷ [];
       }
   -- a stopwatch that is asked puts out in that step
   pub fetches : stepOf (simulation (tableOf (row 1 (aStopwatch Minimum) ∷ []) (link 1 4 9 9 ∷ []) []) (watch (record { name = 21; start = some one; stop = some two } ∷ []) ∷ []) (job 1 3 0 ∷ []) three)

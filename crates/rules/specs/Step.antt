@@ -49,18 +49,19 @@ abbrev pub least : List Float → Float
 least [] = never
 least (x ∷ xs) = leastOf x (least xs)
 
--- an atom's timer is its own; a Coupled's is that of what is inside
+-- an atom's timer is its own; a Coupled's is 0 while a message is parked in it, else that of what is inside
 abbrev pub timerIn : State → Float → Float
 timerIn (ofProcessor s) inside = s .timer
 timerIn (ofBatcher s) inside = s .timer
 timerIn (ofStopwatch s) inside = s .timer
-timerIn (ofCoupled s) inside = inside
+timerIn (ofCoupled []) inside = inside
+timerIn (ofCoupled (m ∷ parked)) inside = instant
 
 -- the levels of events: those of the Coupleds, and one for what stands inside the deepest. Below them is nothing (Depth.antt).
 abbrev pub levels : ℕ
 levels = suc deepest
 
--- Coupled: "Timer: least of its components', infinite with none."
+-- Coupled: "Timer: least of its components', infinite with none.", as 02's A3 amends it: "a Coupled with any parked message has timer 0."
 unfoldable pub timer : Table → ℕ → List State → ℕ → Float
 timer t zero states i = never
 timer t (suc depth) states i = timerIn (stateAt states i) (least (map (timer t depth states) (components t (idAt t i))))
