@@ -1,4 +1,4 @@
--- When a model is due: an atom by its own timer, a Coupled where a component is ("Timer: least of its components'"). Assumes nothing.
+-- When a model is due: an atom by its own timer, a Coupled with a message parked in it or a component that is due. Assumes nothing.
 use Prim.Native.Nat.{ℕ, suc, _+_, _-_, _≤_}
 use mathlib.Core.Path.{_≡_, refl, sym, ap, _∙_, subst}
 use mathlib.Core.Logic.{inl, inr}
@@ -13,13 +13,13 @@ use Rattle.times.specs.Order.{same-test}
 use Rattle.times.specs.Laws.{timers-zero, timers-instant, timers-antisymmetric, least-is-one, least-timer, least-le-first, least-le-second, never-timer, time-timer, instant-time}
 use Rattle.rules.specs.Base.{if_then_else_, some-of, those, from}
 use Rattle.rules.specs.Table.{Kind, processor, batcher, stopwatch, coupled, Table, idAt, kindAt, components, isCoupled}
-use Rattle.rules.specs.Simulation.{State, ofProcessor, ofBatcher, ofStopwatch, ofCoupled, stateAt}
+use Rattle.rules.specs.Simulation.{Parked, State, ofProcessor, ofBatcher, ofStopwatch, ofCoupled, stateAt}
 use Rattle.rules.specs.Step.{least, timerIn, timer, due}
 use Rattle.rules.specs.Valid.{stateFits}
 use Rattle.rules.specs.Ends.{or-l, or-r, or-split, All, nil, _&_, all-any}
 use Rattle.rules.specs.Depth.{Fine}
 use Rattle.rules.specs.Least as Least
-use Rattle.rules.specs.Least.{Fitted, ownTimer, at-timer, timerIn-coupled}
+use Rattle.rules.specs.Least.{Fitted, ownTimer, at-timer}
 use Rattle.words.specs.declared.Found.the-variants.{At, Nothing}
 use Rattle.words.specs.Search.{firstFrom}
 use Rattle.words.specs.SearchLaws.{first-at, first-nothing, search-end}
@@ -73,11 +73,15 @@ module _ (t : Table) (ok : Fine t) (states : List State) (g : Fitted t states) w
   unfolding timer
   due-atom depth i e = ap (λ (x : Float). eq x instant) (own-timer (stateAt states i) (least (map (timer t depth states) (components t (idAt t i)))) (kindAt t i) e (g .fit i))
 
-  -- a Coupled is due where a component is
-  pub due-coupled : (depth i : ℕ) → kindAt t i ≡ coupled → due t (suc depth) states i ≡ some-of (due t depth states) (components t (idAt t i))
+  -- a Coupled is due with a message parked in it (02, A3), and else where a component is
+  pub due-parked : (depth i : ℕ) (m : Parked) (parked : List Parked) → stateAt states i ≡ ofCoupled (m ∷ parked) → due t (suc depth) states i ≡ true
+  unfolding timer eq
+  due-parked depth i m parked e = ap (λ (s : State). eq (timerIn s (least (map (timer t depth states) (components t (idAt t i))))) instant) e
+
+  pub due-coupled : (depth i : ℕ) → stateAt states i ≡ ofCoupled [] → due t (suc depth) states i ≡ some-of (due t depth states) (components t (idAt t i))
   unfolding timer
   due-coupled depth i e =
-      ap (λ (x : Float). eq x instant) (timerIn-coupled (stateAt states i) (least (map (timer t depth states) (components t (idAt t i)))) (subst (λ (k : Kind). T (stateFits k (stateAt states i))) e (g .fit i)))
+      ap (λ (s : State). eq (timerIn s (least (map (timer t depth states) (components t (idAt t i))))) instant) e
       ∙ least-some (timer t depth states) (components t (idAt t i)) (all-any (components t (idAt t i)) (at-timer t ok states g depth))
 
   pub due-none : (i : ℕ) → due t 0 states i ≡ false

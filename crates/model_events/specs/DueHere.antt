@@ -1,5 +1,5 @@
 -- When a model is due, by the words of its row. Assumes nothing.
-use Prim.Native.Nat.{ℕ, suc, _-_, _<_}
+use Prim.Native.Nat.{ℕ, suc, _-_, _≤_, _<_}
 use mathlib.Core.Path.{_≡_, refl, ap, _∙_, subst}
 use mathlib.Core.Bool.{Bool, true, false, false≢true}
 use mathlib.Core.List.{List}
@@ -17,11 +17,12 @@ use Rattle.rules.specs.Least.{ownTimer}
 use Rattle.words.specs.declared.Found.{Found}
 use Rattle.words.specs.Search.{firstFrom}
 use Rattle.words.specs.SearchLaws.{found-to}
-use Rattle.memory.specs.Words.{timerIn}
+use Rattle.memory.specs.Words.{timerIn, heldIn}
 use Rattle.views.specs.World.{beginOf, statesIn, Ready}
 use Rattle.views.specs.Layout.{state-is}
 use Rattle.views.specs.Timers.{own-here}
-use Rattle.model_events.specs.Due.{due-atom, due-coupled}
+use Rattle.views.specs.Parked.{state-none, state-some}
+use Rattle.model_events.specs.Due.{due-atom, due-parked, due-coupled}
 
 pub is-coupled-is : (k : Kind) → isCoupled k ≡ true → k ≡ coupled
 is-coupled-is (processor p) e = absurd (false≢true e)
@@ -40,10 +41,17 @@ module _ (t : Table) (ok : Fine t) (mem : List ℕ) (ready : Ready t mem) (i : �
       ∙ ap (λ (s : State). eq (ownTimer s) instant) (state-is t mem i inside)
       ∙ ap (λ (x : Float). eq x instant) (own-here (kindAt t i) (beginOf t i) mem i e))
 
-  pub due-inside : (depth : ℕ) → 0 < depth → isCoupled (kindAt t i) ≡ true → due t depth (statesIn t mem) i ≡ some-of (due t (depth - 1) (statesIn t mem)) (components t (idAt t i))
-  due-inside depth l e =
+  -- a Coupled: something is parked in it, or nothing is
+  pub due-held : (depth : ℕ) → 0 < depth → isCoupled (kindAt t i) ≡ true → 0 < heldIn mem i → due t depth (statesIn t mem) i ≡ true
+  due-held depth l e held =
+      let s = state-some t mem i inside (is-coupled-is (kindAt t i) e) ready held in
+      above (λ d. due t d (statesIn t mem) i ≡ true) depth l
+      (due-parked t ok (statesIn t mem) (ready .good .0) (depth - 1) i (s .0) (s .1) (state-is t mem i inside ∙ s .2))
+
+  pub due-inside : (depth : ℕ) → 0 < depth → isCoupled (kindAt t i) ≡ true → heldIn mem i ≤ 0 → due t depth (statesIn t mem) i ≡ some-of (due t (depth - 1) (statesIn t mem)) (components t (idAt t i))
+  due-inside depth l e none =
       above (λ d. due t d (statesIn t mem) i ≡ some-of (due t (depth - 1) (statesIn t mem)) (components t (idAt t i))) depth l
-      (due-coupled t ok (statesIn t mem) (ready .good .0) (depth - 1) i (is-coupled-is (kindAt t i) e))
+      (due-coupled t ok (statesIn t mem) (ready .good .0) (depth - 1) i (state-is t mem i inside ∙ state-none t mem i inside (is-coupled-is (kindAt t i) e) ready (omega arith)))
 
 -- ---- a loop over the components
 abbrev pub isOne : Table → ℕ → ℕ → Bool

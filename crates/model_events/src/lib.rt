@@ -17,7 +17,7 @@ ghost use Rattle.lookup.specs.Inside.{Inside, tableIn, couplingsIn};
 ghost use Rattle.views.specs.World.{Ready, Frame, Does, statesIn};
 ghost use Rattle.model_events.specs.Events.{Scene, Event, toTarget};
 
-// Whether a model's timer is 0: an atom's own, or that of a component inside.
+// Whether a model's timer is 0: an atom's own; a Coupled's while a message is parked in it, or where that of a component inside is.
 pub fn is_due(state: &[u64], mem: &[u64], depth: usize, row: usize) -> bool
     requires { ⌜ Inside (now state) × Ready (tableIn (now state)) (now mem) × (row < length (tableIn (now state) .rows)) ⌝ }
     ensures { λ r. ⌜ r ≡ Step.due (tableIn (now (state .entry))) depth (statesIn (tableIn (now (state .entry))) (now (mem .entry))) row ⌝ }
@@ -26,6 +26,9 @@ pub fn is_due(state: &[u64], mem: &[u64], depth: usize, row: usize) -> bool
         return false;
     }
     if lookup::is_coupled(state, row) {
+        if 0 < memory::held_at(mem, row) {
+            return true;
+        }
         return has_due(state, mem, depth - 1, row);
     }
     memory::timer_at(mem, row) == 0.0

@@ -1,7 +1,7 @@
 -- The least of all rows' own timers, taken from the front. Assumes nothing.
 use Prim.Native.Nat.{ℕ, zero, suc, _+_, _-_, _≤_, _<_}
 use mathlib.Core.Path.{_≡_, refl, sym, ap, _∙_}
-use mathlib.Core.Bool.{Bool, true, false, false≢true}
+use mathlib.Core.Bool.{Bool, true, false}
 use mathlib.Core.List.{List, map, map-map}
 use native.Mathlib.Omega.{arith}
 use native.Mathlib.Nat.{sub-zero}
@@ -10,16 +10,17 @@ use lib.Dec.{T}
 use lib.Ieee.{Float, binary64, ofBits, lt}
 use Rattle.times.specs.Time.{never, isTimer, leastOf}
 use Rattle.times.specs.Laws as law
-use Rattle.rules.specs.Base.{from}
-use Rattle.rules.specs.Table.{Kind, processor, batcher, stopwatch, coupled, Table, kindAt, isCoupled}
+use Rattle.rules.specs.Base.{if_then_else_, from}
+use Rattle.rules.specs.Table.{Table, kindAt}
 use Rattle.rules.specs.Step.{least, leastTimer}
 use Rattle.rules.specs.Least.{ownTimer, least-is, fitted-fits}
 use Rattle.rules.specs.Depth.{passed-again}
-use Rattle.memory.specs.Words.{timerIn}
-use Rattle.memory.specs.View.{stateIn}
+use Rattle.memory.specs.Words.{timerIn, heldIn}
 use Rattle.lookup.specs.Inside.{Inside, tableIn, postedIn}
 use Rattle.views.specs.World.{beginOf, stateOf, statesIn, Ready}
-use Rattle.views.specs.Timers.{own-here, own-timer}
+use Rattle.views.specs.Layout.{row-of}
+use Rattle.views.specs.Timers.{own-timer}
+use Rattle.views.specs.Parked.{counts, own-counts}
 
 -- ---- a timer that never runs out changes no least
 last-never : (x : Float) → T (isTimer x) → leastOf x never ≡ x
@@ -33,16 +34,9 @@ first-stays : (x y : Float) → lt y x ≡ false → leastOf x y ≡ x
 unfolding leastOf
 first-stays x y above = rw above
 
-pub second-wins : (x y : Float) → lt y x ≡ true → leastOf x y ≡ y
+second-wins : (x y : Float) → lt y x ≡ true → leastOf x y ≡ y
 unfolding leastOf
 second-wins x y below = rw below
-
--- a Coupled has none of its own
-own-never : (k : Kind) (b : ℕ) (mem : List ℕ) (i : ℕ) → isCoupled k ≡ true → ownTimer (stateIn k b mem i) ≡ never
-own-never (processor p) b mem i e = absurd (false≢true e)
-own-never (batcher m) b mem i e = absurd (false≢true e)
-own-never (stopwatch w) b mem i e = absurd (false≢true e)
-own-never coupled b mem i e = refl
 
 -- the own timer of a row, and the least of those from `row` to before `end`
 abbrev pub own : Table → List ℕ → ℕ → Float
@@ -68,23 +62,45 @@ module _ (t : Table) (mem : List ℕ) (ready : Ready t mem) (end : ℕ) (whole :
       let n : suc row ≡ row + 1 = omega arith in
       ap (λ (k : ℕ). least (map (own t mem) (from row k))) e ∙ ap (λ (k : ℕ). leastOf (own t mem row) (least (map (own t mem) (from k (end - (row + 1)))))) n
 
-  -- an atom's timer joins the least so far; a Coupled leaves it
-  pub join-atom : (row : ℕ) → row < end → (x : Float) → T (isTimer x) → leastOf (leastOf x (own t mem row)) (leastFrom t mem (row + 1) end) ≡ leastOf x (leastFrom t mem row end)
-  join-atom row l x h = law.least-groups x (own t mem row) (leastFrom t mem (row + 1) end) h (owned row l) (from-timer row l) ∙ ap (leastOf x) (sym (from-next row l))
+  -- a row's own timer joins the least so far; one that never runs out leaves it
+  join-own : (row : ℕ) → row < end → (x : Float) → T (isTimer x) → leastOf (leastOf x (own t mem row)) (leastFrom t mem (row + 1) end) ≡ leastOf x (leastFrom t mem row end)
+  join-own row l x h = law.least-groups x (own t mem row) (leastFrom t mem (row + 1) end) h (owned row l) (from-timer row l) ∙ ap (leastOf x) (sym (from-next row l))
 
-  pub join-coupled : (row : ℕ) → row < end → isCoupled (kindAt t row) ≡ true → leastFrom t mem (row + 1) end ≡ leastFrom t mem row end
-  join-coupled row l c =
+  join-never : (row : ℕ) → row < end → own t mem row ≡ never → leastFrom t mem (row + 1) end ≡ leastFrom t mem row end
+  join-never row l e =
       sym (first-never (leastFrom t mem (row + 1) end) (from-timer row l))
-      ∙ ap (λ (x : Float). leastOf x (leastFrom t mem (row + 1) end)) (sym (own-never (kindAt t row) (beginOf t row) mem row c))
+      ∙ ap (λ (x : Float). leastOf x (leastFrom t mem (row + 1) end)) (sym e)
       ∙ sym (from-next row l)
 
-  -- a row whose timer is not below the least so far leaves it, whatever its kind
-  pub join-over : (row : ℕ) → row < end → (x : Float) → T (isTimer x) → lt (ofBits binary64 (timerIn mem row)) x ≡ false → leastOf x (leastFrom t mem (row + 1) end) ≡ leastOf x (leastFrom t mem row end)
-  join-over row l x h above = by (isCoupled (kindAt t row)) refl
+  abbrev word : ℕ → Float
+  word row = ofBits binary64 (timerIn mem row)
+
+  abbrev counting : ℕ → Bool
+  counting row = counts (kindAt t row) (heldIn mem row)
+
+  own-is : (row : ℕ) → row < end → (b : Bool) → counting row ≡ b → own t mem row ≡ (if b then word row else never)
+  own-is row l b e = own-counts (kindAt t row) (beginOf t row) mem row (row-of t mem row (omega arith) ready) ∙ ap (λ (z : Bool). if z then word row else never) e
+
+  -- a row that counts, with its timer below the least so far, gives the least so far
+  pub counts-here : (row : ℕ) → row < end → counting row ≡ true → own t mem row ≡ word row
+  counts-here row l c = own-is row l true c
+
+  pub join-below : (row : ℕ) → row < end → (x : Float) → T (isTimer x) → counting row ≡ true → lt (word row) x ≡ true → leastOf (word row) (leastFrom t mem (row + 1) end) ≡ leastOf x (leastFrom t mem row end)
+  join-below row l x h c below =
+      ap (λ (z : Float). leastOf z (leastFrom t mem (row + 1) end)) (sym (second-wins x (word row) below) ∙ ap (leastOf x) (sym (counts-here row l c)))
+      ∙ join-own row l x h
+
+  -- a row that does not count leaves it
+  pub join-uncounted : (row : ℕ) → row < end → (x : Float) → counting row ≡ false → leastOf x (leastFrom t mem (row + 1) end) ≡ leastOf x (leastFrom t mem row end)
+  join-uncounted row l x c = ap (leastOf x) (join-never row l (own-is row l false c))
+
+  -- and so does one whose timer is not below it, whether it counts or not
+  pub join-over : (row : ℕ) → row < end → (x : Float) → T (isTimer x) → lt (word row) x ≡ false → leastOf x (leastFrom t mem (row + 1) end) ≡ leastOf x (leastFrom t mem row end)
+  join-over row l x h above = by (counting row) refl
     where
-      by : (b : Bool) → isCoupled (kindAt t row) ≡ b → leastOf x (leastFrom t mem (row + 1) end) ≡ leastOf x (leastFrom t mem row end)
-      by true c = ap (leastOf x) (join-coupled row l c)
-      by false c = ap (λ (z : Float). leastOf z (leastFrom t mem (row + 1) end)) (sym (ap (leastOf x) (own-here (kindAt t row) (beginOf t row) mem row c) ∙ first-stays x (ofBits binary64 (timerIn mem row)) above)) ∙ join-atom row l x h
+      by : (b : Bool) → counting row ≡ b → leastOf x (leastFrom t mem (row + 1) end) ≡ leastOf x (leastFrom t mem row end)
+      by true c = ap (λ (z : Float). leastOf z (leastFrom t mem (row + 1) end)) (sym (ap (leastOf x) (counts-here row l c) ∙ first-stays x (word row) above)) ∙ join-own row l x h
+      by false c = join-uncounted row l x c
 
   -- none are left
   pub join-end : (row : ℕ) → end ≤ row → (x : Float) → T (isTimer x) → leastOf x (leastFrom t mem row end) ≡ x

@@ -4,15 +4,18 @@ ghost use Prim.Native.Nat.{_-_, _<_};
 ghost use lib.ListN.{length};
 ghost use lib.Dec.{T};
 ghost use Rattle.times.specs.Time.{isTime, isTimer};
+ghost use Rattle.rules.specs.Table.{kindAt};
 ghost use Rattle.rules.specs.Step.{leastTimer};
 ghost use Rattle.rules.specs.Least.{ownTimer, Below};
+ghost use Rattle.memory.specs.Words.{heldIn};
 ghost use Rattle.lookup.specs.Inside.{Inside, tableIn};
+ghost use Rattle.views.specs.Parked as Parked;
 ghost use Rattle.views.specs.World.{stateOf, statesIn, Laid, Ready, Frame};
 ghost use Rattle.sweeps.specs.Skips.{stopFrom};
 ghost use Rattle.row_timers.specs.Passing.{atZero, Passed};
 ghost use Rattle.row_timers.specs.Aging.{Aged};
 
-// The least timer of the models without parent. A Coupled's is that of a component, so the rows' own timers do. Few are below the least so far, so a row's kind is asked for last.
+// The least timer of the models without parent. A Coupled's is 0 or that of a component, so the rows' own timers do. Few are below the least so far, so whether a row's counts is asked last.
 pub fn least_timer(state: &[u64], mem: &[u64]) -> f64
     requires { ⌜ Inside (now state) × Ready (tableIn (now state)) (now mem) ⌝ }
     ensures { λ r. ⌜ r ≡ leastTimer (tableIn (now (state .entry))) (statesIn (tableIn (now (state .entry))) (now (mem .entry))) ⌝ }
@@ -23,13 +26,24 @@ pub fn least_timer(state: &[u64], mem: &[u64]) -> f64
     while row < end {
         let timer = memory::timer_at(mem, row);
         if timer < least {
-            if !lookup::is_coupled(state, row) {
+            if counts(state, mem, row) {
                 least = timer;
             }
         }
         row += 1;
     }
     least
+}
+
+// Whether the row's own timer is the one that its words say: a Coupled's word is 0, and counts while a message is parked in it.
+fn counts(state: &[u64], mem: &[u64], row: usize) -> bool
+    requires { ⌜ Inside (now state) × Ready (tableIn (now state)) (now mem) × (row < length (tableIn (now state) .rows)) ⌝ }
+    ensures { λ r. ⌜ r ≡ Parked.counts (kindAt (tableIn (now (state .entry))) row) (heldIn (now (mem .entry)) row) ⌝ }
+{
+    if lookup::is_coupled(state, row) {
+        return 0 < memory::held_at(mem, row);
+    }
+    true
 }
 
 // The first row from `from` on whose timer's word is that of 0, as a Coupled's is; the row after the last if there is none.

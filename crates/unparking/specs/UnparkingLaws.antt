@@ -1,31 +1,29 @@
 -- The laws of a Coupled's parked messages: a sweep over them is one over their places, and external events leave them as they are. Assumes nothing.
 use Prim.Native.Nat.{ℕ, _+_, _-_, _≤_, _<_}
-use mathlib.Core.Path.{_≡_, refl, sym, ap, subst, _∙_}
+use mathlib.Core.Path.{_≡_, refl, sym, ap, _∙_}
 use mathlib.Core.Bool.{Bool}
 use mathlib.Core.List.{List, [], _∷_, map}
 use native.Mathlib.Nat.{zero-add}
 use native.Mathlib.Omega.{arith}
-use lib.ListN.{length, getD, take, drop, length-map, List·getD-map}
+use lib.ListN.{length, getD, take, drop, List·getD-map}
 use lib.Seq.{ext-getD, getD-take, getD-drop}
-use lib.Dec.{T, eqb, leb→le}
+use lib.Dec.{eqb}
 use lib.Ieee.{Float}
 use Rattle.rules.specs.Base.{Outcome, refused, done, _>>=_, each, those, from}
 use Rattle.rules.specs.Table.{Kind, coupled, Table, idAt, kindAt}
 use Rattle.rules.specs.Simulation.{Parked, stateAt, asCoupled}
 use Rattle.rules.specs.Step.{World, external, unpark}
-use Rattle.rules.specs.Ends.{All, nil, _&_}
 use Rattle.words.specs.declared.Found.{Found}
 use Rattle.words.specs.Lists.{length-lines, getD-from}
 use Rattle.words.specs.Search.{firstFrom}
 use Rattle.words.specs.SearchLaws.{first-ext}
-use Rattle.words.specs.QueueLaws.{queue-length}
 use Rattle.selection.specs.Selected.{each-map, those-map}
 use Rattle.memory.specs.declared.Answer.{Answer}
-use Rattle.memory.specs.Words.{phaseIn, timerIn, heldIn, ownIn}
-use Rattle.memory.specs.View.{parkedOf, parkedIn, stateIn, wordRules, Row}
-use Rattle.memory.specs.Places.{part-length}
+use Rattle.memory.specs.Words.{heldIn, ownIn}
+use Rattle.memory.specs.View.{parkedOf, parkedIn, stateIn, Row}
 use Rattle.views.specs.World.{beginOf, stateOf, worldIn, Ready, Moves, Does}
-use Rattle.views.specs.Layout.{state-is, row-of}
+use Rattle.views.specs.Layout.{state-is}
+use Rattle.views.specs.Parked.{few-held, held-length, row-coupled}
 use Rattle.sweeps.specs.Loops.{all-of, does-as}
 use Rattle.model_events.specs.Untouched.{parked-stays}
 use Rattle.model_events.specs.DueHere.{isOne, components-all}
@@ -66,21 +64,13 @@ module _ (t : Table) (row : ℕ) (inside : row < length (t .rows)) (is : kindAt 
 
   module _ (mem : List ℕ) (ready : Ready t mem) where
     here : Row coupled b mem row
-    here = subst (λ (k : Kind). Row k b mem row) is (row-of t mem row inside ready)
+    here = row-coupled t mem row inside is ready
 
     pub held-few : heldIn mem row ≤ 64
-    held-few = go (here .words)
-      where
-        go : All T (wordRules coupled (phaseIn mem row) (timerIn mem row) (heldIn mem row) (ownIn b 64 mem)) → heldIn mem row ≤ 64
-        go (p & c & h & u & nil) = leb→le (heldIn mem row) 64 h
+    held-few = few-held b mem row here
 
     pub own-room : b + 64 ≤ length mem
     own-room = here .placed .room
-
-    held-length : length (parkedIn b mem row) ≡ heldIn mem row
-    held-length =
-        length-map (take (heldIn mem row) (ownIn b 64 mem)) parkedOf
-        ∙ queue-length (heldIn mem row) (ownIn b 64 mem) (omega (arith, held-few, part-length b 64 mem own-room))
 
     at-place : (k : ℕ) → k < heldIn mem row → getD (parkedIn b mem row) k (parkedOf 0) ≡ parkedAt b mem k
     at-place k l =
@@ -90,8 +80,8 @@ module _ (t : Table) (row : ℕ) (inside : row < length (t .rows)) (is : kindAt 
     parked-places : parkedIn b mem row ≡ map (parkedAt b mem) (from 0 (heldIn mem row))
     parked-places =
         ext-getD (parkedOf 0) (parkedIn b mem row) (map (parkedAt b mem) (from 0 (heldIn mem row)))
-        (held-length ∙ sym (length-lines (parkedAt b mem) (heldIn mem row)))
-        (λ k l. let m : k < heldIn mem row = omega (arith, held-length) in at-place k m ∙ sym (getD-from (parkedAt b mem) (parkedOf 0) 0 (heldIn mem row) k m ∙ ap (parkedAt b mem) (zero-add k)))
+        (held-length b mem row here ∙ sym (length-lines (parkedAt b mem) (heldIn mem row)))
+        (λ k l. let m : k < heldIn mem row = omega (arith, held-length b mem row here) in at-place k m ∙ sym (getD-from (parkedAt b mem) (parkedOf 0) 0 (heldIn mem row) k m ∙ ap (parkedAt b mem) (zero-add k)))
 
     -- what the row j takes is what stands at the places that are for it
     pub takes-does : (services : List Float) (depth : ℕ) (clock : Float) (j id begin held : ℕ) → id ≡ idAt t j → begin ≡ b → held ≡ heldIn mem row → (after : List ℕ) (r : Answer)
@@ -115,7 +105,7 @@ module _ (t : Table) (row : ℕ) (inside : row < length (t .rows)) (is : kindAt 
     pub same-at : (k : ℕ) → k < held → parkedAt begin after k ≡ parkedAt begin mem k
     same-at k l =
         let long : length (parkedIn b after row) ≡ length (parkedIn b mem row) = ap length same in
-        rw e (sym (at-place after ready′ k (omega (arith, held-length after ready′, held-length mem ready, long, n)))
+        rw e (sym (at-place after ready′ k (omega (arith, held-length b after row (here after ready′), held-length b mem row (here mem ready), long, n)))
         ∙ ap (λ (l : List Parked). getD l k (parkedOf 0)) same
         ∙ at-place mem ready k (omega (arith, n)))
 

@@ -5,4 +5,5 @@ pub mod Layout
 pub mod Frames
 pub mod Lifts
 pub mod Timers
+pub mod Parked
 pub mod MessageLaws

@@ -15,7 +15,7 @@ use Rattle.lookup.specs.InsideLaws.{fine-in, sizes-in}
 use Rattle.views.specs.World.{statesIn}
 use Rattle.views.specs.Timers.{head-here, own-timer, timer-here}
 use Rattle.model_events.specs.Due.{some-on, some-none, some-end, due-none}
-use Rattle.model_events.specs.DueHere.{isOne, components-from, found-next, due-here, due-inside}
+use Rattle.model_events.specs.DueHere.{isOne, components-from, found-next, due-here, due-held, due-inside}
 use Prim.Native.Nat.{ℕ, _<_, _+_, _*_, _-_}
 use borrow.Fn.Kinds.{In}
 use borrow.Fn.PlainCycle.{Measures, is, falls, and}
@@ -29,6 +29,7 @@ use Rattle.lookup.proofs.id_of.Reads as id-of-reads
 use Rattle.lookup.proofs.is_coupled.Reads as is-coupled-reads
 use Rattle.lookup.proofs.next_component.Reads as next-component-reads
 use Rattle.lookup.proofs.row_count.Reads as row-count-reads
+use Rattle.memory.proofs.held_at.Reads as held-at-reads
 use Rattle.memory.proofs.timer_at.Reads as timer-at-reads
 use Rattle.model_events.proofs.+has_due+is_due.{statement}
 use Rattle.model_events.proofs.+has_due+is_due.Tie.{close}
@@ -68,17 +69,14 @@ abbrev has-due-claims : ℕ → has-due-lts.Claims
 has-due-claims t = (id-of-reads.Asked, id-of-reads.Learnt, row-count-reads.Asked, row-count-reads.Learnt, next-component-reads.Asked, next-component-reads.Learnt, is-due-below t, is-due.Post)
 
 abbrev is-due-claims : ℕ → is-due-lts.Claims
-is-due-claims t = (is-coupled-reads.Asked, is-coupled-reads.Learnt, has-due-below t, has-due.Post, timer-at-reads.Asked, timer-at-reads.Learnt)
+is-due-claims t = (is-coupled-reads.Asked, is-coupled-reads.Learnt, held-at-reads.Asked, held-at-reads.Learnt, has-due-below t, has-due.Post, timer-at-reads.Asked, timer-at-reads.Learnt)
 
--- src/lib.rt:41:9
 has-due-id-of-requires : (t : ℕ) → has-due-lts.Need-id-of-requires (has-due-claims t) (has-due-at t) has-due.Post has-due-Inv-loop has-due-μ-loop
 has-due-id-of-requires t c κs = search needs
 
--- src/lib.rt:42:9
 has-due-row-count-requires : (t : ℕ) → has-due-lts.Need-row-count-requires (has-due-claims t) (has-due-at t) has-due.Post has-due-Inv-loop has-due-μ-loop
 has-due-row-count-requires t c κs = search needs
 
--- src/lib.rt:44:5
 has-due-loop-holds : (t : ℕ) → has-due-lts.Need-loop-holds (has-due-claims t) (has-due-at t) has-due.Post has-due-Inv-loop has-due-μ-loop
 has-due-loop-holds t c =
     let a = (c .before .before .before .before) .args in (
@@ -87,15 +85,12 @@ has-due-loop-holds t c =
       ap (some-of (due (tableIn (a .state .now)) (a .depth) (statesIn (tableIn (a .state .now)) (a .mem .now)))) (components-from (tableIn (a .state .now)) _ _ ((c .row-count) .ensures) (a .row) ((c .before .id-of) .ensures)),
     )
 
--- src/lib.rt:45:15
 has-due-next-component-requires : (t : ℕ) → has-due-lts.Need-next-component-requires (has-due-claims t) (has-due-at t) has-due.Post has-due-Inv-loop has-due-μ-loop
 has-due-next-component-requires t c κs = search needs
 
--- src/lib.rt:46:31
 has-due-enum-told : (t : ℕ) → has-due-lts.Need-enum-told (has-due-claims t) (has-due-at t) has-due.Post has-due-Inv-loop has-due-μ-loop
 has-due-enum-told t c = search needs
 
--- src/lib.rt:46:31
 has-due-returns : (t : ℕ) → has-due-lts.Need-returns (has-due-claims t) (has-due-at t) has-due.Post has-due-Inv-loop has-due-μ-loop
 has-due-returns t c =
     let a = (c .before .before .before .before .before .before .before .before .before) .args in
@@ -103,11 +98,9 @@ has-due-returns t c =
     (found-next (tableIn (a .state .now)) ((c .before .before .before .before .before .before .id-of) .result) ((c .before .before .before .before .before .row-count) .result) ((c .before .before .before .before .loop) .inv .1) ((c .before .before .before .before .loop) .from) _ _ ((c .before .before .next-component) .ensures) ((c .enum-told) .given .1)))
     ∙ (c .before .before .before .before .loop) .inv .2
 
--- src/lib.rt:47:23
 has-due-enum-known-component : (t : ℕ) → has-due-lts.Need-enum-known-component (has-due-claims t) (has-due-at t) has-due.Post has-due-Inv-loop has-due-μ-loop
 has-due-enum-known-component t c = search needs
 
--- src/lib.rt:48:20
 has-due-is-due-requires : (t : ℕ) → has-due-lts.Need-is-due-requires (has-due-claims t) (has-due-at t) has-due.Post has-due-Inv-loop has-due-μ-loop
 has-due-is-due-requires t c κs =
     let a = (c .before .before .before .before .before .before .before .before .before .before) .args in
@@ -115,7 +108,6 @@ has-due-is-due-requires t c κs =
     let bounds = sweep-bounds {S = ℕ} (λ k s. done s) (isOne (tableIn (a .state .now)) ((c .before .before .before .before .before .before .before .id-of) .result)) ((c .before .before .before .before .before .loop) .from) ((c .before .before .before .before .before .before .row-count) .result) 0 ((c .before .component) .given .0 .0) found in
     (search needs, ((c .before .before .before .before .before .before .before .before .before .before) .pre .1 .0, (c .before .before .before .before .before .before .before .before .before .before) .pre .1 .1, (let b = bounds .1 in let e = (c .before .before .before .before .before .loop) .inv .1 in omega arith)))
 
--- src/lib.rt:49:21
 has-due-returns-2 : (t : ℕ) → has-due-lts.Need-returns-2 (has-due-claims t) (has-due-at t) has-due.Post has-due-Inv-loop has-due-μ-loop
 has-due-returns-2 t c =
     let a = (c .before .before .before .before .before .before .before .before .before .before .before .before) .args in
@@ -124,7 +116,6 @@ has-due-returns-2 t c =
     sym (some-on f (isOne (tableIn (a .state .now)) ((c .before .before .before .before .before .before .before .before .before .id-of) .result)) ((c .before .before .before .before .before .before .before .loop) .from) ((c .before .before .before .before .before .before .before .before .row-count) .result) ((c .before .before .before .component) .given .0 .0) found ∙ rw (sym ((c .before .is-due) .ensures) ∙ (c .if1) .taken))
     ∙ (c .before .before .before .before .before .before .before .loop) .inv .2
 
--- src/lib.rt:51:24
 has-due-add-from : (t : ℕ) → has-due-lts.Need-add-from (has-due-claims t) (has-due-at t) has-due.Post has-due-Inv-loop has-due-μ-loop
 has-due-add-from t c =
     let a = (c .before .before .before .before .before .before .before .before .before .before .before .before) .args in
@@ -133,7 +124,6 @@ has-due-add-from t c =
     let few = sizes-in (a .state .now) ((c .before .before .before .before .before .before .before .before .before .before .before .before) .pre .1 .0) in
     omega (arith, bounds .1, (c .before .before .before .before .before .before .before .loop) .inv .1, few .0)
 
--- src/lib.rt:44:5
 has-due-loop-less : (t : ℕ) → has-due-lts.Need-loop-less (has-due-claims t) (has-due-at t) has-due.Post has-due-Inv-loop has-due-μ-loop
 has-due-loop-less t c =
     let a = (c .before .before .before .before .before .before .before .before .before .before .before .before) .args in
@@ -141,7 +131,6 @@ has-due-loop-less t c =
     let bounds = sweep-bounds {S = ℕ} (λ k s. done s) (isOne (tableIn (a .state .now)) ((c .before .before .before .before .before .before .before .before .before .id-of) .result)) ((c .before .before .before .before .before .before .before .loop) .from) ((c .before .before .before .before .before .before .before .before .row-count) .result) 0 ((c .before .before .before .component) .given .0 .0) found in
     omega (arith, bounds .0, bounds .1)
 
--- src/lib.rt:44:5
 has-due-loop-again : (t : ℕ) → has-due-lts.Need-loop-again (has-due-claims t) (has-due-at t) has-due.Post has-due-Inv-loop has-due-μ-loop
 has-due-loop-again t c =
     let a = (c .before .before .before .before .before .before .before .before .before .before .before .before) .args in
@@ -152,40 +141,45 @@ has-due-loop-again t c =
       sym (some-on f (isOne (tableIn (a .state .now)) ((c .before .before .before .before .before .before .before .before .before .id-of) .result)) ((c .before .before .before .before .before .before .before .loop) .from) ((c .before .before .before .before .before .before .before .before .row-count) .result) ((c .before .before .before .component) .given .0 .0) found ∙ rw (sym ((c .before .is-due) .ensures) ∙ (c .if1) .left)) ∙ (c .before .before .before .before .before .before .before .loop) .inv .2,
     )
 
--- src/lib.rt:37:1
 has-due-returns-3 : (t : ℕ) → has-due-lts.Need-returns-3 (has-due-claims t) (has-due-at t) has-due.Post has-due-Inv-loop has-due-μ-loop
 has-due-returns-3 t c =
     let a = (c .before .before .before .before .before .before) .args in
     sym (some-end (due (tableIn (a .state .now)) (a .depth) (statesIn (tableIn (a .state .now)) (a .mem .now))) (isOne (tableIn (a .state .now)) ((c .before .before .before .id-of) .result)) ((c .before .loop) .from) ((c .before .before .row-count) .result) ((c .loop-test) .left))
     ∙ (c .before .loop) .inv .2
 
--- src/lib.rt:28:9
 is-due-returns : (t : ℕ) → is-due-lts.Need-returns (is-due-claims t) (is-due-at t) is-due.Post
 is-due-returns t c =
     let a = (c .before .before .before) .args in
     sym (ap (λ (d : ℕ). due (tableIn (a .state .now)) d (statesIn (tableIn (a .state .now)) (a .mem .now)) (a .row)) ((c .if1) .taken) ∙ due-none (tableIn (a .state .now)) (fine-in (a .state .now) ((c .before .before .before) .pre .1 .0)) (statesIn (tableIn (a .state .now)) (a .mem .now)) ((c .before .before .before) .pre .1 .1 .good .0) (a .row))
 
--- src/lib.rt:30:8
 is-due-is-coupled-requires : (t : ℕ) → is-due-lts.Need-is-coupled-requires (is-due-claims t) (is-due-at t) is-due.Post
 is-due-is-coupled-requires t c κs = search needs
 
--- src/lib.rt:31:36
+is-due-held-at-requires : (t : ℕ) → is-due-lts.Need-held-at-requires (is-due-claims t) (is-due-at t) is-due.Post
+is-due-held-at-requires t c κs =
+    let a = (c .before .before .before .before .before) .args in
+    head-here (tableIn (a .state .now)) (a .mem .now) (a .row) ((c .before .before .before .before .before) .pre .1 .2) ((c .before .before .before .before .before) .pre .1 .1 .laid)
+
+is-due-returns-2 : (t : ℕ) → is-due-lts.Need-returns-2 (is-due-claims t) (is-due-at t) is-due.Post
+is-due-returns-2 t c =
+    let a = (c .before .before .before .before .before .before .before) .args in
+    sym (due-held (tableIn (a .state .now)) (fine-in (a .state .now) ((c .before .before .before .before .before .before .before) .pre .1 .0)) (a .mem .now) ((c .before .before .before .before .before .before .before) .pre .1 .1) (a .row) ((c .before .before .before .before .before .before .before) .pre .1 .2) (a .depth) (let z = (c .before .before .before .before .if1) .left in omega arith) (sym ((c .before .before .before .is-coupled) .ensures) ∙ (c .before .before .if2) .taken)
+    (let h = (c .before .held-at) .ensures in let z = (c .if3) .taken in omega arith))
+
 is-due-sub-has-due : (t : ℕ) → is-due-lts.Need-sub-has-due (is-due-claims t) (is-due-at t) is-due.Post
 is-due-sub-has-due t c = search needs
 
--- src/lib.rt:31:9
 is-due-has-due-requires : (t : ℕ) → is-due-lts.Need-has-due-requires (is-due-claims t) (is-due-at t) is-due.Post
 is-due-has-due-requires t c κs =
-    (search needs, ((c .before .before .before .before .before) .pre .1 .0, (c .before .before .before .before .before) .pre .1 .1, (c .before .before .before .before .before) .pre .1 .2))
+    (search needs, ((c .before .before .before .before .before .before .before) .pre .1 .0, (c .before .before .before .before .before .before .before) .pre .1 .1, (c .before .before .before .before .before .before .before) .pre .1 .2))
 
--- src/lib.rt:31:9
-is-due-returns-2 : (t : ℕ) → is-due-lts.Need-returns-2 (is-due-claims t) (is-due-at t) is-due.Post
-is-due-returns-2 t c =
-    let a = (c .before .before .before .before .before .before) .args in
+is-due-returns-3 : (t : ℕ) → is-due-lts.Need-returns-3 (is-due-claims t) (is-due-at t) is-due.Post
+is-due-returns-3 t c =
+    let a = (c .before .before .before .before .before .before .before .before) .args in
     (c .has-due) .ensures
-    ∙ sym (due-inside (tableIn (a .state .now)) (fine-in (a .state .now) ((c .before .before .before .before .before .before) .pre .1 .0)) (a .mem .now) ((c .before .before .before .before .before .before) .pre .1 .1) (a .row) ((c .before .before .before .before .before .before) .pre .1 .2) (a .depth) (let z = (c .before .before .before .if1) .left in omega arith) (sym ((c .before .before .is-coupled) .ensures) ∙ (c .before .if2) .taken))
+    ∙ sym (due-inside (tableIn (a .state .now)) (fine-in (a .state .now) ((c .before .before .before .before .before .before .before .before) .pre .1 .0)) (a .mem .now) ((c .before .before .before .before .before .before .before .before) .pre .1 .1) (a .row) ((c .before .before .before .before .before .before .before .before) .pre .1 .2) (a .depth) (let z = (c .before .before .before .before .before .if1) .left in omega arith) (sym ((c .before .before .before .before .is-coupled) .ensures) ∙ (c .before .before .before .if2) .taken)
+    (let h = (c .before .before .held-at) .ensures in let z = (c .before .if3) .left in omega arith))
 
--- src/lib.rt:33:5
 is-due-timer-at-requires : (t : ℕ) → is-due-lts.Need-timer-at-requires (is-due-claims t) (is-due-at t) is-due.Post
 is-due-timer-at-requires t c κs =
     let a = (c .before .before .before .before .before) .args in (
@@ -193,10 +187,9 @@ is-due-timer-at-requires t c κs =
       timer-here (tableIn (a .state .now)) (a .mem .now) (a .row) ((c .before .before .before .before .before) .pre .1 .2) (sym ((c .before .is-coupled) .ensures) ∙ (c .if2) .left) (own-timer (tableIn (a .state .now)) (a .mem .now) (a .row) ((c .before .before .before .before .before) .pre .1 .2) ((c .before .before .before .before .before) .pre .1 .1)),
     )
 
--- src/lib.rt:23:1
-is-due-returns-3 : (t : ℕ) → is-due-lts.Need-returns-3 (is-due-claims t) (is-due-at t) is-due.Post
+is-due-returns-4 : (t : ℕ) → is-due-lts.Need-returns-4 (is-due-claims t) (is-due-at t) is-due.Post
 unfolding ofBits
-is-due-returns-3 t c =
+is-due-returns-4 t c =
     let a = (c .before .before .before .before .before .before) .args in
     ap (λ (x : Float). eq x instant) ((c .timer-at) .ensures)
     ∙ sym (due-here (tableIn (a .state .now)) (fine-in (a .state .now) ((c .before .before .before .before .before .before) .pre .1 .0)) (a .mem .now) ((c .before .before .before .before .before .before) .pre .1 .1) (a .row) ((c .before .before .before .before .before .before) .pre .1 .2) (a .depth) (let z = (c .before .before .before .if1) .left in omega arith) (sym ((c .before .before .is-coupled) .ensures) ∙ (c .before .if2) .left))
@@ -225,8 +218,10 @@ pub +has-due+is-due-spec : {M : Type 1} → statement M
     is-due.Post
     (is-due-returns t)
     (is-due-is-coupled-requires t)
+    (is-due-held-at-requires t)
+    (is-due-returns-2 t)
     (is-due-sub-has-due t)
     (is-due-has-due-requires t)
-    (is-due-returns-2 t)
-    (is-due-timer-at-requires t)
     (is-due-returns-3 t)
+    (is-due-timer-at-requires t)
+    (is-due-returns-4 t)

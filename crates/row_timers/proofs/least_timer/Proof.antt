@@ -1,22 +1,21 @@
 -- `row_timers::least_timer` meets its contract. The loop's invariant: the least so far and the least of the rows to come are the least timer. Assumes nothing.
 use borrow.Author.Needs.{needs}
-use borrow.Author.Tests.{not-true, not-false}
 use Prim.Native.Nat.{_+_, _-_, _<_}
 use mathlib.Core.Path.{_≡_, sym, ap, _∙_, subst}
 use mathlib.Core.Logic.{⊎-elim}
 use native.Mathlib.Omega.{arith}
 use lib.ListN.{length}
 use lib.Dec.{T}
-use lib.Ieee.{Float, lt}
+use lib.Ieee.{Float, binary64, ofBits, lt}
 use Rattle.times.specs.Time.{isTimer, leastOf}
-use Rattle.times.specs.Laws.{never-timer, least-timer}
-use Rattle.rules.specs.Table.{kindAt}
+use Rattle.times.specs.Laws.{never-timer}
 use Rattle.rules.specs.Step.{leastTimer}
+use Rattle.memory.specs.Words.{timerIn}
 use Rattle.lookup.specs.Inside.{tableIn}
 use Rattle.lookup.specs.InsideLaws.{sizes-in}
-use Rattle.views.specs.World.{beginOf, statesIn}
-use Rattle.views.specs.Timers.{own-here, head-here, own-timer}
-use Rattle.row_timers.specs.Leasts.{own, leastFrom, second-wins, join-start, join-atom, join-coupled, join-over, join-end}
+use Rattle.views.specs.World.{statesIn}
+use Rattle.views.specs.Timers.{head-here, own-timer}
+use Rattle.row_timers.specs.Leasts.{leastFrom, counts-here, join-start, join-below, join-uncounted, join-over, join-end}
 use Rattle.row_timers.specs.Aging.{timer-any}
 use Rattle.row_timers.proofs.least_timer.Statement.{statement}
 use Rattle.row_timers.proofs.least_timer.Tie as tie
@@ -55,9 +54,10 @@ timer-at-requires c κs =
     let l : loop .row < length (t .rows) = (let e = loop .inv .0 in let m = c .loop-test .taken in omega arith) in
     (head-here t (a .mem .now) (loop .row) l (start .pre .1 .laid), timer-any t (a .mem .now) (loop .row) l (start .pre .1 .laid) (own-timer t (a .mem .now) (loop .row) l (start .pre .1)))
 
-is-coupled-requires : tie.Need-is-coupled-requires Inv-loop μ-loop
-is-coupled-requires c κs =
-    (c .before .before .before .before .before .before .before .before .pre .0, (let e = c .before .before .before .loop .inv .0 in let l = c .before .before .loop-test .taken in omega arith))
+counts-requires : tie.Need-counts-requires Inv-loop μ-loop
+counts-requires c κs =
+    let start = c .before .before .before .before .before .before .before .before in
+    (start .pre .0, start .pre .1, (let e = c .before .before .before .loop .inv .0 in let l = c .before .before .loop-test .taken in omega arith))
 
 add-row : tie.Need-add-row Inv-loop μ-loop
 add-row c =
@@ -81,23 +81,21 @@ loop-again c =
     let x = loop .least in
     let l = c .before .before .loop-test .taken in
     let ready = start .pre .1 in
-    let inside : row < length (t .rows) = omega (arith, whole, l) in
     let read = c .before .timer-at .ensures in
     ⊎-elim
     (λ w.
-    let atom = sym (w .1 .ensures) ∙ not-true (w .1 .result) (w .2 .taken) in
-    let here = sym (own-here (kindAt t row) (beginOf t row) mem row atom) in
-    let e : c .if1 .least ≡ leastOf x (own t mem row) = w .3 ∙ sym (second-wins x (c .before .timer-at .result) (w .0 .taken)) ∙ ap (leastOf x) (read ∙ here) in (
+    let counted = sym (w .1 .ensures) ∙ w .2 .taken in
+    let e : c .if1 .least ≡ ofBits binary64 (timerIn mem row) = w .3 ∙ read in (
       whole,
-      subst (λ (z : Float). T (isTimer z)) (sym e) (least-timer x (own t mem row) (loop .inv .1) (own-timer t mem row inside ready)),
-      ap (λ (z : Float). leastOf z (leastFrom t mem (row + 1) end)) e ∙ join-atom t mem ready end whole row l x (loop .inv .1) ∙ loop .inv .2,
+      subst (λ (z : Float). T (isTimer z)) (counts-here t mem ready end whole row l counted ∙ sym e) (own-timer t mem row (omega (arith, whole, l)) ready),
+      ap (λ (z : Float). leastOf z (leastFrom t mem (row + 1) end)) e ∙ join-below t mem ready end whole row l x (loop .inv .1) counted (ap (λ (z : Float). lt z x) (sym read) ∙ w .0 .taken) ∙ loop .inv .2,
     ))
     (⊎-elim
     (λ w.
     let e : c .if1 .least ≡ x = w .3 in (
       whole,
       subst (λ (z : Float). T (isTimer z)) (sym e) (loop .inv .1),
-      ap (λ (z : Float). leastOf z (leastFrom t mem (row + 1) end)) e ∙ ap (leastOf x) (join-coupled t mem ready end whole row l (sym (w .1 .ensures) ∙ not-false (w .1 .result) (w .2 .left))) ∙ loop .inv .2,
+      ap (λ (z : Float). leastOf z (leastFrom t mem (row + 1) end)) e ∙ join-uncounted t mem ready end whole row l x (sym (w .1 .ensures) ∙ w .2 .left) ∙ loop .inv .2,
     ))
     (λ w.
     let e : c .if1 .least ≡ x = w .1 in (
@@ -125,7 +123,7 @@ least-timer-spec =
     never-requires
     loop-holds
     timer-at-requires
-    is-coupled-requires
+    counts-requires
     add-row
     loop-less
     loop-again
