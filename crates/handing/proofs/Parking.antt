@@ -16,7 +16,7 @@ use Rattle.rules.specs.Table.{Kind, coupled, Table, kindAt, idAt, internals}
 use Rattle.rules.specs.Simulation.{Parked, State, ofCoupled, stateAt, asCoupled}
 use Rattle.rules.specs.Step.{Happening, World, becomes}
 use Rattle.rules.specs.Valid.{parkedRules, coupledRules, stateFits}
-use Rattle.rules.specs.Ends.{All, nil, _&_, all-append, all-every, parts, whole-of, ends-most}
+use Rattle.rules.specs.Ends.{All, nil, _&_, all-append, all-every, parts, whole-of, ends-most, ends-done}
 use Rattle.rules.specs.Least.{Fitted}
 use Rattle.rules.specs.Worlds.{Good, fitted-set, ParkedFits, parked-fit}
 use Rattle.words.specs.declared.Found.{Found}
@@ -31,7 +31,7 @@ use Rattle.parked_rows.specs.Parking.{withOne, Parks}
 use Rattle.views.specs.World.{beginOf, stateOf, statesIn, worldIn, Ready, Frame, Moves, Does}
 use Rattle.views.specs.Layout.{states-long, state-is, row-of}
 use Rattle.views.specs.Frames.{own-laid, own-states, own-frame}
-use Rattle.views.specs.Lifts.{done-keeps, row-kind}
+use Rattle.views.specs.Lifts.{row-kind}
 use Rattle.lookup.specs.Inside.{Inside, tableIn, couplingsIn}
 use Rattle.lookup.specs.InsideLaws.{internals-in, coupling-fits}
 use Rattle.sweeps.specs.Appends.{one-more, appended}
@@ -59,7 +59,7 @@ parked-each i (m ∷ ms) xs w inside e =
 
 -- ---- what was done has at most so many
 most-done : {A : Type 0} (most : ℕ) (r : Refusal) (xs ys : List A) → atMost most r xs ≡ done ys → (ys ≡ xs) × (length ys ≤ most)
-most-done most r xs ys e = done-keeps {B = λ _. Unit {0}} {Q = λ zs. (zs ≡ xs) × (length zs ≤ most)} (ends-most most r xs tt) e
+most-done most r xs ys e = ends-done {B = λ _. Unit {0}} {Q = λ zs. (zs ≡ xs) × (length zs ≤ most)} (ends-most most r xs tt) e
 
 -- ---- a row of a Coupled, whose own words begin at b
 module _ (t : Table) (i : ℕ) (inside : i < length (t .rows)) (is : kindAt t i ≡ coupled) (mem : List ℕ) (ready : Ready t mem) where

@@ -13,7 +13,7 @@ use Rattle.times.specs.Order.{same-test}
 use Rattle.times.specs.Laws.{timers-zero, timers-instant, timers-antisymmetric, least-is-one, least-timer, least-le-first, least-le-second, never-timer, time-timer, instant-time}
 use Rattle.rules.specs.Base.{if_then_else_, some-of, those, from}
 use Rattle.rules.specs.Table.{Kind, processor, batcher, stopwatch, coupled, Table, idAt, kindAt, components, isCoupled}
-use Rattle.rules.specs.Simulation.{Parked, State, ofProcessor, ofBatcher, ofStopwatch, ofCoupled, stateAt}
+use Rattle.rules.specs.Simulation.{State, ofProcessor, ofBatcher, ofStopwatch, ofCoupled, stateAt}
 use Rattle.rules.specs.Step.{least, timerIn, timer, due}
 use Rattle.rules.specs.Valid.{stateFits}
 use Rattle.rules.specs.Ends.{or-l, or-r, or-split, All, nil, _&_, all-any}
@@ -73,11 +73,7 @@ module _ (t : Table) (ok : Fine t) (states : List State) (g : Fitted t states) w
   unfolding timer
   due-atom depth i e = ap (λ (x : Float). eq x instant) (own-timer (stateAt states i) (least (map (timer t depth states) (components t (idAt t i)))) (kindAt t i) e (g .fit i))
 
-  -- a Coupled is due with a message parked in it (02, A3), and else where a component is
-  pub due-parked : (depth i : ℕ) (m : Parked) (parked : List Parked) → stateAt states i ≡ ofCoupled (m ∷ parked) → due t (suc depth) states i ≡ true
-  unfolding timer eq
-  due-parked depth i m parked e = ap (λ (s : State). eq (timerIn s (least (map (timer t depth states) (components t (idAt t i))))) instant) e
-
+  -- a Coupled with nothing parked in it is due where a component is
   pub due-coupled : (depth i : ℕ) → stateAt states i ≡ ofCoupled [] → due t (suc depth) states i ≡ some-of (due t depth states) (components t (idAt t i))
   unfolding timer
   due-coupled depth i e =

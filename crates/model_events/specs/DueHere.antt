@@ -13,7 +13,7 @@ use Rattle.rules.specs.Table.{Kind, processor, batcher, stopwatch, coupled, Tab
 use Rattle.rules.specs.Simulation.{State}
 use Rattle.rules.specs.Step.{due}
 use Rattle.rules.specs.Depth.{Fine}
-use Rattle.rules.specs.Least.{ownTimer}
+use Rattle.rules.specs.Least.{ownTimer, due-parked}
 use Rattle.words.specs.declared.Found.{Found}
 use Rattle.words.specs.Search.{firstFrom}
 use Rattle.words.specs.SearchLaws.{found-to}
@@ -22,7 +22,7 @@ use Rattle.views.specs.World.{beginOf, statesIn, Ready}
 use Rattle.views.specs.Layout.{state-is}
 use Rattle.views.specs.Timers.{own-here}
 use Rattle.views.specs.Parked.{state-none, state-some}
-use Rattle.model_events.specs.Due.{due-atom, due-parked, due-coupled}
+use Rattle.model_events.specs.Due.{due-atom, due-coupled}
 
 pub is-coupled-is : (k : Kind) → isCoupled k ≡ true → k ≡ coupled
 is-coupled-is (processor p) e = absurd (false≢true e)

@@ -5,4 +5,3 @@ pub mod Due
 pub mod DueHere
 pub mod External
 pub mod Along
-pub mod Untouched

@@ -29,7 +29,7 @@ use Rattle.rules.specs.Models.{isNamed}
 use Rattle.rules.specs.Step.{timer, due}
 use Rattle.rules.specs.Valid.{isActive, processorRules, batcherRules, markFits, member, differ, names, stopwatchRules, coupledRules, stateFits, statesFit, messageRules, isValid, modelFits}
 use Rattle.rules.specs.Calls.{Call, InjectInput, Step, StepN, StepUntil, Reset, ResetMessages, ResetGlobalTime, listRules, callRules}
-use Rattle.rules.specs.Ends.{no-some, but-not, but-not-i, if-both, if-both-i, or-l, or-r, or-split, All, nil, _&_, every-all, all-every, parts, whole-of}
+use Rattle.rules.specs.Ends.{all-imp, no-some, but-not, but-not-i, if-both, if-both-i, or-l, or-r, or-split, All, _&_, every-all, all-every, parts, whole-of}
 
 infixr 3 _also_
 infix 4 _∈_
@@ -118,10 +118,6 @@ pub hold-decides : (bs : List Bool) → Decides (hold bs) (All T bs)
 hold-decides bs = exactly (parts bs) whole-of
 
 -- ---- every element, and some element
-all-imp : {A : Type 0} {P R : A → Type 0} {xs : List A} → ((x : A) → P x → R x) → All P xs → All R xs
-all-imp f nil = nil
-all-imp f (_&_ {x = x} h p) = f x h & all-imp f p
-
 pub data Any {A : Type 0} (P : A → Type 0) : List A → Type 0 where
   here : {x : A} {xs : List A} → P x → Any P (x ∷ xs)
   there : {x : A} {xs : List A} → Any P xs → Any P (x ∷ xs)

@@ -61,6 +61,31 @@ pub data All {A : Type 0} (P : A → Type 0) : List A → Type 0 where
   nil : All P []
   _&_ : {x : A} {xs : List A} → P x → All P xs → All P (x ∷ xs)
 
+pub all-imp : {A : Type 0} {P R : A → Type 0} {xs : List A} → ((x : A) → P x → R x) → All P xs → All R xs
+all-imp f nil = nil
+all-imp f (_&_ {x = x} h p) = f x h & all-imp f p
+
+-- x is one of a list
+pub data Among {A : Type 0} (x : A) : List A → Type 0 where
+  first : {xs : List A} → Among x (x ∷ xs)
+  later : {y : A} {xs : List A} → Among x xs → Among x (y ∷ xs)
+
+pub among-all : {A : Type 0} (xs : List A) → All (λ x. Among x xs) xs
+among-all [] = nil
+among-all (x ∷ xs) = first & all-imp (λ y m. later m) (among-all xs)
+
+pub among-those : {A : Type 0} (test : A → Bool) (x : A) {xs : List A} → Among x xs → T (test x) → Among x (those test xs)
+among-those test x (first {xs = xs}) t = go (test x) t
+  where
+    go : (b : Bool) → T b → Among x (if b then x ∷ those test xs else those test xs)
+    go true t = first
+    go false t = absurd t
+among-those test x (later {y = y} {xs = xs} m) t = go (test y) (among-those test x m t)
+  where
+    go : (b : Bool) → Among x (those test xs) → Among x (if b then y ∷ those test xs else those test xs)
+    go true n = later n
+    go false n = n
+
 pub all-any : {A : Type 0} {P : A → Type 0} (xs : List A) → ((x : A) → P x) → All P xs
 all-any [] f = nil
 all-any (x ∷ xs) f = f x & all-any xs f
@@ -137,6 +162,21 @@ ends-refused {A = A} {B = B} {Q = Q} {r = r} h e = go (subst (λ (z : Outcome A)
     go : Ends B Q (refused r) → B r
     go (stops b) = b
 
+-- what was done in an outcome that is known
+pub ends-done : {A : Type 0} {B : Refusal → Type 0} {Q : A → Type 0} {o : Outcome A} {a : A} → Ends B Q o → o ≡ done a → Q a
+ends-done {A} {B} {Q} {a = a} h e = go (subst (λ (z : Outcome A). Ends B Q z) e h)
+  where
+    go : Ends B Q (done a) → Q a
+    go (goes q) = q
+
+-- nothing is asked of an outcome, nor of a refusal
+abbrev pub Whatever : {A : Type 0} → A → Type 0
+Whatever x = Unit {0}
+
+pub ends-whatever : {A : Type 0} (o : Outcome A) → Ends Whatever Whatever o
+ends-whatever (refused r) = stops tt
+ends-whatever (done a) = goes tt
+
 -- a sweep keeps what each visit keeps
 pub ends-each : {A S : Type 0} {B : Refusal → Type 0} {K : S → Type 0} {P : A → Type 0} (visit : A → S → Outcome S) {xs : List A} (s : S)
     → All P xs → ((x : A) (s : S) → P x → K s → Ends B K (visit x s)) → K s → Ends B K (each visit xs s)
@@ -145,3 +185,9 @@ ends-each visit s (_&_ {x = x} {xs = xs} g p) k h = ends-bind (each visit xs) (k
 
 pub ends-most : {A : Type 0} {B : Refusal → Type 0} (most : ℕ) (r : Refusal) (xs : List A) → B r → Ends B (λ ys. (ys ≡ xs) × (length ys ≤ most)) (atMost most r xs)
 ends-most most r xs b = ends-if (leb (length xs) most) (λ t. goes (refl, leb→le (length xs) most t)) (λ t. stops b)
+
+-- a sweep that comes by x makes R there, which the other visits keep
+pub ends-meets : {A S : Type 0} {B : Refusal → Type 0} {K R : S → Type 0} {P : A → Type 0} (visit : A → S → Outcome S) (x : A) {xs : List A} (s : S) → Among x xs → All P xs
+    → ((y : A) (s : S) → P y → K s → Ends B K (visit y s)) → ((s : S) → P x → K s → Ends B R (visit x s)) → ((y : A) (s : S) → P y → R s → Ends B R (visit y s)) → K s → Ends B R (each visit xs s)
+ends-meets visit x s (first {xs = xs}) (g & p) keeps makes stays h = ends-bind (each visit xs) (makes s g h) (λ s₁ h₁. ends-each visit s₁ p stays h₁)
+ends-meets visit x s (later {y = y} {xs = xs} m) (g & p) keeps makes stays h = ends-bind (each visit xs) (keeps y s g h) (λ s₁ h₁. ends-meets visit x s₁ m p keeps makes stays h₁)

@@ -1,6 +1,6 @@
 -- "the least timer": for a table that passes intake and states that fit, the least of the parentless models' timers is the least of all rows' own timers. So it is a timer, and at most each row's own. Assumes nothing.
 use Prim.Native.Nat.{ℕ, zero, suc, _+_, _≤_, _<_}
-use mathlib.Core.Path.{_≡_, refl, sym, ap, subst}
+use mathlib.Core.Path.{_≡_, refl, sym, ap, _∙_, subst}
 use mathlib.Core.Logic.{_⊎_, inl, inr}
 use mathlib.Core.Bool.{Bool, true, false}
 use mathlib.Core.List.{List, [], _∷_, map}
@@ -8,14 +8,14 @@ use native.Mathlib.Omega.{arith}
 use native.Mathlib.Nat.{eq-or-lt-of-le}
 use lib.ListN.{length, getD}
 use lib.Dec.{T}
-use lib.Ieee.{Float, le}
+use lib.Ieee.{Float, le, eq}
 use Rattle.times.specs.Time.{instant, never, isTimer, leastOf}
 use Rattle.times.specs.Laws as law
 use Rattle.rules.specs.Base.{if_then_else_, those, from}
 use Rattle.rules.specs.Table.{Kind, coupled, Row, Table, noRow, rowAt, idAt, kindAt, isParent, isParentless, parentless, components}
 use Rattle.rules.specs.Intake.{passesIntake}
-use Rattle.rules.specs.Simulation.{State, ofProcessor, ofBatcher, ofStopwatch, ofCoupled, stateAt}
-use Rattle.rules.specs.Step.{least, timerIn, timer, levels, leastTimer}
+use Rattle.rules.specs.Simulation.{Parked, State, ofProcessor, ofBatcher, ofStopwatch, ofCoupled, stateAt}
+use Rattle.rules.specs.Step.{least, timerIn, timer, due, levels, leastTimer}
 use Rattle.rules.specs.Valid.{stateFits, statesFit}
 use Rattle.rules.specs.Ends.{if-both, if-both-i, All, nil, _&_, all-any}
 use Rattle.rules.specs.Decides.{tells, passes, timer-decides, StateKeeps, of-processor, of-batcher, of-stopwatch, of-coupled, state-decides}
@@ -95,6 +95,14 @@ timerIn-inside a (ofStopwatch s) inside t u f h = absurd f
 timerIn-inside a (ofCoupled []) inside t u f h = h
 timerIn-inside a (ofCoupled (m ∷ parked)) inside t u f h = law.timers-transitive a instant inside t zero-timer u h (law.timers-instant inside u)
 
+-- a Coupled's timer is 0 where that of what is inside is
+timerIn-zero : (s : State) → T (stateFits coupled s) → timerIn s instant ≡ instant
+timerIn-zero (ofProcessor s) f = absurd f
+timerIn-zero (ofBatcher s) f = absurd f
+timerIn-zero (ofStopwatch s) f = absurd f
+timerIn-zero (ofCoupled []) f = refl
+timerIn-zero (ofCoupled (m ∷ parked)) f = refl
+
 -- ---- the least of a list: a timer, at most each, and the greatest such
 module _ {A : Type 0} (f : A → Float) where
   pub least-timer : {xs : List A} → All (λ x. T (isTimer (f x))) xs → T (isTimer (least (map f xs)))
@@ -128,7 +136,7 @@ at-index (h & p) d zero = h
 at-index (h & p) d (suc i) = at-index p d i
 
 -- an index in range that passes the test is among those
-among : {P : ℕ → Type 0} (test : ℕ → Bool) (j k : ℕ) → All P (those test (from j k)) → (i : ℕ) → j ≤ i → i < j + k → T (test i) → P i
+pub among : {P : ℕ → Type 0} (test : ℕ → Bool) (j k : ℕ) → All P (those test (from j k)) → (i : ℕ) → j ≤ i → i < j + k → T (test i) → P i
 among test j zero p i l m t = absurd (omega arith)
 among {P} test j (suc k) p i l m t = go (eq-or-lt-of-le l) (test j) refl p (λ q n. among test (suc j) k q i n (omega arith) t)
   where
@@ -201,6 +209,26 @@ module _ (t : Table) (ok : Fine t) (states : List State) (g : Fitted t states) w
       law.timers-antisymmetric (leastTimer t states) (least (map ownTimer states)) least-is-timer (least-timer ownTimer all-owned)
       (least-highest ownTimer (leastTimer t states) least-is-timer all-above)
       (least-highest (at levels) (least (map ownTimer states)) (least-timer ownTimer all-owned) (all-any (parentless t) (below-all levels)))
+
+  -- ---- a Coupled is due with a message parked in it, and where a component is
+  pub due-parked : (d i : ℕ) (m : Parked) (parked : List Parked) → stateAt states i ≡ ofCoupled (m ∷ parked) → due t (suc d) states i ≡ true
+  unfolding timer eq
+  due-parked d i m parked e = ap (λ (s : State). eq (timerIn s (inside d i)) instant) e
+
+  pub due-component : (d i j : ℕ) → j < length (t .rows) → kindAt t i ≡ coupled → T (isParent (idAt t i) (rowAt t j .parent)) → T (due t d states j) → T (due t (suc d) states i)
+  unfolding timer
+  due-component d i j l e s h =
+      law.timers-zero (at (suc d) i) (at-timer (suc d) i) .1
+      (ap (timerIn (stateAt states i)) none ∙ timerIn-zero (stateAt states i) (subst (λ (k : Kind). T (stateFits k (stateAt states i))) e (g .fit i)))
+    where
+      below : T (le (inside d i) (at d j))
+      below = among (λ j. isParent (idAt t i) (rowAt t j .parent)) 0 (length (t .rows)) (least-lowest (at d) (all-any (components t (idAt t i)) (at-timer d))) j (omega arith) (omega arith) s
+
+      none : inside d i ≡ instant
+      none =
+          law.timers-antisymmetric (inside d i) instant (inside-timer d i) zero-timer
+          (subst (λ (x : Float). T (le (inside d i) x)) (law.timers-zero (at d j) (at-timer d j) .0 h) below)
+          (law.timers-instant (inside d i) (inside-timer d i))
 
 -- ---- the advance of a step without messages is the least of all rows' own timers
 pub least-is : (t : Table) (states : List State) → T (passesIntake t) → T (statesFit (t .rows) states) → leastTimer t states ≡ least (map ownTimer states)

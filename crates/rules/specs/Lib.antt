@@ -25,6 +25,7 @@ pub mod Decides
 pub mod Exactly
 -- what refusal 20 asks is kept by every call
 pub mod Depth
+pub mod Arriving
 pub mod Least
 pub mod Kept
 pub mod Worlds

@@ -13,6 +13,7 @@ use Rattle.rules.specs.Base.{Outcome, refused, done, _>>=_, each, those, from}
 use Rattle.rules.specs.Table.{Kind, coupled, Table, idAt, kindAt}
 use Rattle.rules.specs.Simulation.{Parked, stateAt, asCoupled}
 use Rattle.rules.specs.Step.{World, external, unpark}
+use Rattle.rules.specs.Arriving.{parked-stays}
 use Rattle.words.specs.declared.Found.{Found}
 use Rattle.words.specs.Lists.{length-lines, getD-from}
 use Rattle.words.specs.Search.{firstFrom}
@@ -25,7 +26,6 @@ use Rattle.views.specs.World.{beginOf, stateOf, worldIn, Ready, Moves, Does}
 use Rattle.views.specs.Layout.{state-is}
 use Rattle.views.specs.Parked.{few-held, held-length, row-coupled}
 use Rattle.sweeps.specs.Loops.{all-of, does-as}
-use Rattle.model_events.specs.Untouched.{parked-stays}
 use Rattle.model_events.specs.DueHere.{isOne, components-all}
 use Rattle.unparking.specs.Unparking.{parkedAt, isFor, handed, takes}
 

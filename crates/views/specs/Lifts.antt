@@ -1,6 +1,6 @@
 -- From an atom's event on its row's words to the rules' event of that row on the whole world. Assumes nothing.
 use Prim.Native.Nat.{ℕ, suc, _+_, _≤_, _<_}
-use mathlib.Core.Path.{_≡_, refl, sym, ap, subst, subst₂, _∙_}
+use mathlib.Core.Path.{_≡_, refl, sym, ap, subst₂, _∙_}
 use mathlib.Core.Logic.{inl, inr}
 use mathlib.Core.Bool.{false, true≢false}
 use mathlib.Core.List.{List, [], _∷_, _++_}
@@ -9,14 +9,13 @@ use lib.ListN.{length}
 use lib.Dec.{T}
 use lib.Ieee.{Float}
 use Rattle.times.specs.Time.{isTime}
-use Rattle.rules.specs.declared.Refusal.{Refusal}
 use Rattle.rules.specs.Sizes.{isContent, isWord}
 use Rattle.rules.specs.Base.{Outcome, refused, done, _>>=_}
 use Rattle.rules.specs.Table.{Kind, processor, batcher, stopwatch, coupled, Table, kindAt, isCoupled}
 use Rattle.rules.specs.Simulation.{State, stateAt, asProcessor, asBatcher, asStopwatch}
 use Rattle.rules.specs.Models.{Fate, processorExternal, processorInternal, batcherExternal, stopwatchExternal}
 use Rattle.rules.specs.Step.{Out, Happening, came, went, World, noted, becomes, moved, External, Internal, externalAs, external, internalAs, internal}
-use Rattle.rules.specs.Ends.{Ends, goes}
+use Rattle.rules.specs.Ends.{ends-done}
 use Rattle.rules.specs.Depth.{Fine, Deep}
 use Rattle.rules.specs.Worlds.{Good, external-keeps, internal-keeps}
 use Rattle.rules.specs.Runs.{NotTwenty, any-closed}
@@ -59,13 +58,6 @@ internal-as t services (batcher b) depth ext int clock i w a = refl
 internal-as t services (stopwatch p) depth ext int clock i w a = refl
 internal-as t services coupled depth ext int clock i w a = absurd (true≢false a)
 
--- ---- what was done in an outcome that is known
-pub done-keeps : {A : Type 0} {B : Refusal → Type 0} {Q : A → Type 0} {o : Outcome A} {a : A} → Ends B Q o → o ≡ done a → Q a
-done-keeps {A} {B} {Q} {a = a} h e = go (subst (λ (z : Outcome A). Ends B Q z) e h)
-  where
-    go : Ends B Q (done a) → Q a
-    go (goes q) = q
-
 -- an atom's event needs no level below it
 atom-deep : (t : Table) (depth i : ℕ) → isCoupled (kindAt t i) ≡ false → Deep t (suc depth) i
 atom-deep t depth i a e = absurd (true≢false (sym (ap isCoupled e) ∙ a))
@@ -99,7 +91,7 @@ module _ (t : Table) (ok : Fine t) (services : List Float) (short : T (isWord (l
           ∙ (λ k. done (record { states = sym (own-states t i 0 0 mem after inside (λ p l. inr (omega arith)) (ready .laid) own) k; place = placeIn after; log = more log }))
 
       good : Good t (worldIn t after [])
-      good = done-keeps (external-keeps t ok services short NotTwenty (λ _. Unit {0}) (any-closed t) clock c (suc depth) i port content (worldIn t mem []) (atom-deep t depth i a) u (ready .good, tt)) (is []) .0
+      good = ends-done (external-keeps t ok services short NotTwenty (λ _. Unit {0}) (any-closed t) clock c (suc depth) i port content (worldIn t mem []) (atom-deep t depth i a) u (ready .good, tt)) (is []) .0
   external-lifts port content u a mem after ready own (answer.Refused r) took =
       λ log. external-is port content a mem log ∙ ap (λ (o : Outcome (State × ℕ × Fate)). o >>= tookIn clock i port content (worldIn t mem log)) took
 
@@ -130,7 +122,7 @@ module _ (t : Table) (ok : Fine t) (services : List Float) (short : T (isWord (l
           ∙ (λ k. done (record { states = sym (own-states t i at (at + 64) mem after inside (λ p l. inl (omega arith)) (ready .laid) own) k; place = placeIn after; log = more log }, outsIn at n after))
 
       good : Good t (worldIn t after [])
-      good = done-keeps (internal-keeps t ok services short NotTwenty (λ _. Unit {0}) (any-closed t) clock c (suc depth) i (worldIn t mem []) (atom-deep t depth i a) (ready .good, tt)) (is []) .0 .0
+      good = ends-done (internal-keeps t ok services short NotTwenty (λ _. Unit {0}) (any-closed t) clock c (suc depth) i (worldIn t mem []) (atom-deep t depth i a) (ready .good, tt)) (is []) .0 .0
   internal-lifts a mem after ready at past own (put.Refused r) gave =
       λ log. internal-is a mem log ∙ ap (λ (o : Outcome (State × ℕ × List Out)). o >>= gaveIn clock i (worldIn t mem log)) gave
 
