@@ -18,12 +18,12 @@ use Rattle.rules.specs.Models.{Fate, Kept, joining, batcherExternal, batcherInt
 use Rattle.rules.specs.Step.{Out, outAt, Happening, came, went, waited, World, after}
 use Rattle.rules.specs.Calls.{Call}
 use Rattle.rules.specs.Valid.{isValid}
-use Rattle.rules.specs.Ends.{All, nil, _&_, all-append, Ends, stops, goes, ends-if, ends-bind, ends-map}
+use Rattle.rules.specs.Ends.{All, nil, _&_, all-append, Ends, stops, goes, ends-if, ends-bind, ends-map, Whatever, ends-whatever}
 use Rattle.rules.specs.Depth.{Fine, fine}
 use Rattle.rules.specs.Worlds.{Closed, NotBatcher, after-at}
 use Rattle.rules.specs.Runs.{Valid, valid-of, step-ends, CallFits, Carried, calls-keeps}
 use Rattle.promises.specs.Story.{Event, Accepted, Released, Waited, wasKept, contents, eventOf, history, acceptedIn, releasesIn, joined, accepted, released, cameTo, heldBy, happened, leftBy}
-use Rattle.promises.specs.Machine.{Sized, release-splits, history-append, accepted-append, another-row, this-row, in-range, contents-back, Any, any-ends, row-sized}
+use Rattle.promises.specs.Machine.{Sized, release-splits, history-append, accepted-append, another-row, this-row, in-range, contents-back, row-sized}
 
 -- a message that comes to a batcher's row is kept there
 abbrev KeptThere : Table → Happening → Type 0
@@ -37,14 +37,14 @@ AllKept t w = All (KeptThere t) (w .log)
 elsewhere : (t : Table) (i : ℕ) (fate : Fate) → NotBatcher (kindAt t i) → (b : Batcher) → kindAt t i ≡ batcher b → fate ≡ Kept
 elsewhere t i fate n b e = absurd (subst NotBatcher e n)
 
-kept-closed : (t : Table) → Closed t Any (AllKept t)
+kept-closed : (t : Table) → Closed t Whatever (AllKept t)
 kept-closed t = record {
   other = λ r o. tt;
   six = λ i p e c. tt;
   put-other = λ i s place w n k. k;
   came-other = λ clock i port content fate w c n k. all-append k (elsewhere t i fate n & nil);
   went-other = λ clock i out w c n k. all-append k (tt & nil);
-  took = λ clock i port content b s w c e q g k. ends-map (any-ends (batcherExternal b content s)) (λ r _. tt) (λ s₁ _. all-append k ((λ b e. refl) & nil));
+  took = λ clock i port content b s w c e q g k. ends-map (ends-whatever (batcherExternal b content s)) (λ r _. tt) (λ s₁ _. all-append k ((λ b e. refl) & nil));
   gave = λ clock i b s w c e q g k. all-append k (tt & nil);
   aged = λ a w g u l k. all-append k (tt & nil);
 }
@@ -54,13 +54,13 @@ record KeptSo (t : Table) (sim : Simulation) (log : List Happening) : Type 0 whe
   table : sim .table ≡ t
   kept : All (KeptThere t) log
 
-carried : (t : Table) → Carried Any (KeptSo t)
+carried : (t : Table) → Carried Whatever (KeptSo t)
 carried t = record {
   other = λ r o. tt;
   valid = λ sim log h. h .valid;
   change = λ sim next log e f g v h. record { valid = v; table = e ∙ h .table; kept = h .kept };
   forward = λ services sim log short h.
-      ends-map (step-ends Any (AllKept (sim .table)) services sim short (kept-closed (sim .table)) (h .valid) nil) (λ r b. tt)
+      ends-map (step-ends Whatever (AllKept (sim .table)) services sim short (kept-closed (sim .table)) (h .valid) nil) (λ r b. tt)
       (λ r k. record { valid = k .0; table = k .1 ∙ h .table; kept = all-append (h .kept) (subst (λ (z : Table). All (KeptThere z) (r .1)) (h .table) (k .2)) });
 }
 
@@ -87,7 +87,7 @@ pub comes-accepted : (start : Simulation) → T (isValid start) → (cs : List C
     → accepted row (happened start cs) ≡ cameTo row (happened start cs)
 comes-accepted start v cs fs row b e =
     all-of-it (start .table) row b e (happened start cs)
-    (calls-keeps Any (KeptSo (start .table)) (carried (start .table)) cs start [] fs (record { valid = valid-of start v; table = refl; kept = nil }) .kept)
+    (calls-keeps Whatever (KeptSo (start .table)) (carried (start .table)) cs start [] fs (record { valid = valid-of start v; table = refl; kept = nil }) .kept)
 
 -- ---- a batcher's jobs, from any state
 joined-append : (xs ys : List Event) → joined (releasesIn (xs ++ ys)) ≡ joined (releasesIn xs) ++ joined (releasesIn ys)
@@ -96,10 +96,10 @@ joined-append (Accepted job ∷ xs) ys = joined-append xs ys
 joined-append (Released jobs ∷ xs) ys = ap (λ (z : List ℕ). jobs ++ z) (joined-append xs ys) ∙ sym (append-assoc jobs (joined (releasesIn xs)) (joined (releasesIn ys)))
 joined-append (Waited a ∷ xs) ys = joined-append xs ys
 
-keeps-it : (b : Batcher) (job : ℕ) (s : BatcherState) → Ends Any (λ n. n .jobs ≡ s .jobs ++ job ∷ []) (batcherExternal b job s)
+keeps-it : (b : Batcher) (job : ℕ) (s : BatcherState) → Ends Whatever (λ n. n .jobs ≡ s .jobs ++ job ∷ []) (batcherExternal b job s)
 unfolding batcherExternal
 keeps-it b job s =
-    ends-bind {Q = Any} _ (any-ends (if ltb (length (s .jobs) + 1) (b .«max_batch_size») then joining (s .phase) b s else done (batching.Release, instant)))
+    ends-bind {Q = Whatever} _ (ends-whatever (if ltb (length (s .jobs) + 1) (b .«max_batch_size») then joining (s .phase) b s else done (batching.Release, instant)))
     (λ pt _. ends-bind {Q = λ jobs. jobs ≡ s .jobs ++ job ∷ []} _ (ends-if (ltb (length (s .jobs)) mostJobs) (λ _. goes refl) (λ _. stops tt)) (λ jobs k. goes k))
 
 splits : (b : Batcher) → Sized b → (s : BatcherState) → s .jobs ≡ batcherInternal b s .1 ++ batcherInternal b s .0 .jobs
@@ -157,7 +157,7 @@ module _ (row : ℕ) (first : List ℕ) where
         go true u v = f (u tt)
         go false u v = g (v tt)
 
-    flows-closed : Closed t Any FlowsIn
+    flows-closed : Closed t Whatever FlowsIn
     flows-closed = record {
       other = λ r o. tt;
       six = λ i p e c. tt;
@@ -187,14 +187,14 @@ module _ (row : ℕ) (first : List ℕ) where
     table : sim .table ≡ t
     flows : Flows log (sim .states)
 
-  flows-carried : (t : Table) (b : Batcher) → kindAt t row ≡ batcher b → Carried Any (FlowsSo t)
+  flows-carried : (t : Table) (b : Batcher) → kindAt t row ≡ batcher b → Carried Whatever (FlowsSo t)
   flows-carried t b is = record {
     other = λ r o. tt;
     valid = λ sim log h. h .valid;
     change = λ sim next log e f g v h. record { valid = v; table = e ∙ h .table; flows = subst (Flows log) (sym f) (h .flows) };
     forward = λ services sim log short h.
         let k : kindAt (sim .table) row ≡ batcher b = ap (λ (z : Table). kindAt z row) (h .table) ∙ is in
-        ends-map (step-ends Any (FlowsIn (sim .table) (fine (sim .table) (h .valid .table)) b k log) services sim short (flows-closed (sim .table) (fine (sim .table) (h .valid .table)) b k log) (h .valid) (subst (λ (z : List Happening). Flows z (sim .states)) (sym (append-nil log)) (h .flows))) (λ r b. tt)
+        ends-map (step-ends Whatever (FlowsIn (sim .table) (fine (sim .table) (h .valid .table)) b k log) services sim short (flows-closed (sim .table) (fine (sim .table) (h .valid .table)) b k log) (h .valid) (subst (λ (z : List Happening). Flows z (sim .states)) (sym (append-nil log)) (h .flows))) (λ r b. tt)
         (λ r k. record { valid = k .0; table = k .1 ∙ h .table; flows = k .2 });
   }
 
@@ -203,5 +203,5 @@ pub comes-kept : (start : Simulation) → T (isValid start) → (cs : List Call)
     → heldBy (start .states) row ++ cameTo row (happened start cs) ≡ released row (happened start cs) ++ heldBy (leftBy start cs .states) row
 comes-kept start v cs fs row b e =
     ap (λ (z : List ℕ). heldBy (start .states) row ++ z) (sym (comes-accepted start v cs fs row b e))
-    ∙ calls-keeps Any (FlowsSo row (heldBy (start .states) row) (start .table)) (flows-carried row (heldBy (start .states) row) (start .table) b e) cs start [] fs
+    ∙ calls-keeps Whatever (FlowsSo row (heldBy (start .states) row) (start .table)) (flows-carried row (heldBy (start .states) row) (start .table) b e) cs start [] fs
     (record { valid = valid-of start v; table = refl; flows = append-nil (heldBy (start .states) row) }) .flows

@@ -24,13 +24,13 @@ use Rattle.rules.specs.Models.{Kept, batcherExternal}
 use Rattle.rules.specs.Step.{Happening, came, World, externalAs, external}
 use Rattle.rules.specs.Calls.{post, put, Call}
 use Rattle.rules.specs.Valid.{isValid}
-use Rattle.rules.specs.Ends.{All, Ends, stops, goes, ends-if, ends-bind, ends-map, ends-refused}
+use Rattle.rules.specs.Ends.{All, Ends, stops, goes, ends-if, ends-bind, ends-map, ends-refused, Whatever, ends-whatever}
 use Rattle.rules.specs.Depth.{Fine, fine}
 use Rattle.rules.specs.Worlds.{worldOf}
 use Rattle.rules.specs.Runs.{Valid, valid-of, step-ends, CallFits, Carried, calls-keeps, begun-valid, fresh-at, put-valid, post-valid}
 use Rattle.promises.specs.Story.{Event, Accepted, history, joined, accepted, releases, released, afterEvent, stateThen, Lawful, Moment, Acceptance, ahead, eventNumber, placeInIt, Comes, eventAt, Leaves, BeginsFresh, CapacityNone, SixElsewhere, happened, leftBy, Demand, advancesUntil, Within, AcceptsWithRoom, Beyond, OfAll}
 use Rattle.promises.specs.Six.{six-elsewhere}
-use Rattle.promises.specs.Machine.{Sized, Shape, Sound, fresh-sound, NoRoom, Took, accept-ends, accept-takes, history-sound, conserved, Goes, goes-in, counts-down, history-append, lawful-split, Lived, Told, this-row, Any, any-ends, row-sized, lived-sound, ToldIn, told-closed}
+use Rattle.promises.specs.Machine.{Sized, Shape, Sound, fresh-sound, NoRoom, Took, accept-ends, accept-takes, history-sound, conserved, Goes, goes-in, counts-down, history-append, lawful-split, Lived, Told, this-row, row-sized, lived-sound, ToldIn, told-closed}
 
 -- a batcher's default state, as a test
 abbrev freshParts : BatcherPhase → Float → List ℕ → Bool
@@ -89,13 +89,13 @@ capacity-alone start h (inr (i, b, s, e, q, phase, l)) =
     let is : freshBatcher ≡ s = ap asBatcher (sym (fresh-begins start h i b e) ∙ q) in
     absurd (let d : batching.Passive ≡ batching.Release = ap (λ (z : BatcherState). z .phase) is ∙ phase in let z : _≡_ {A = ℕ} 0 1 = cc in omega arith)
 
-post-default : (p : Posted) → Ends Any (λ (s : Simulation). s .states ≡ freshAll (s .table)) (post p)
+post-default : (p : Posted) → Ends Whatever (λ (s : Simulation). s .states ≡ freshAll (s .table)) (post p)
 unfolding post
-post-default p = ends-bind _ (any-ends (takenIn (intake p))) (λ t _. goes refl)
+post-default p = ends-bind _ (ends-whatever (takenIn (intake p))) (λ t _. goes refl)
 
-put-default : (p : Posted) (sim : Simulation) → Ends Any (λ (s : Simulation). T (isValid sim) × (s .states ≡ freshAll (s .table))) (put p sim)
+put-default : (p : Posted) (sim : Simulation) → Ends Whatever (λ (s : Simulation). T (isValid sim) × (s .states ≡ freshAll (s .table))) (put p sim)
 unfolding put
-put-default p sim = ends-if (isValid sim) (λ v. ends-bind _ (any-ends (takenIn (intake p))) (λ t _. goes (v, refl))) (λ _. stops tt)
+put-default p sim = ends-if (isValid sim) (λ v. ends-bind _ (ends-whatever (takenIn (intake p))) (λ t _. goes (v, refl))) (λ _. stops tt)
 
 -- what `post` answers is a new simulation of a table that passes intake
 pub post-fresh : (p : Posted) (sim : Simulation) → post p ≡ done sim → AllFresh sim
@@ -111,7 +111,7 @@ pub record Reached (t : Table) (rows : ℕ → Bool) (sim : Simulation) (log : L
   pub table : sim .table ≡ t
   pub told : Told t rows log (sim .states)
 
-carried : (t : Table) (rows : ℕ → Bool) → Carried Any (Reached t rows)
+carried : (t : Table) (rows : ℕ → Bool) → Carried Whatever (Reached t rows)
 carried t rows = record {
   other = λ r o. tt;
   valid = λ sim log h. h .valid;
@@ -119,7 +119,7 @@ carried t rows = record {
   forward = λ services sim log short h.
       let ok = fine (sim .table) (h .valid .table) in
       let now : ToldIn (sim .table) ok rows log (worldOf sim []) = subst (λ (z : List Happening). Told (sim .table) rows z (sim .states)) (sym (append-nil log)) (subst (λ (z : Table). Told z rows log (sim .states)) (sym (h .table)) (h .told)) in
-      ends-map (step-ends Any (ToldIn (sim .table) ok rows log) services sim short (told-closed (sim .table) ok rows log) (h .valid) now) (λ r _. tt)
+      ends-map (step-ends Whatever (ToldIn (sim .table) ok rows log) services sim short (told-closed (sim .table) ok rows log) (h .valid) now) (λ r _. tt)
       (λ r k. record { valid = k .0; table = k .1 ∙ h .table; told = subst (λ (z : Table). Told z rows (log ++ r .1) (r .0 .states)) (h .table) (k .2) });
 }
 
@@ -127,7 +127,7 @@ starts-reached : (start : Simulation) → Valid start → Reached (start .table)
 starts-reached start v = record { valid = v; table = refl; told = λ row b e since. record { lawful = tt; state = fresh-is (stateAt (start .states) row) since } }
 
 pub calls-reach : (start : Simulation) → Valid start → (cs : List Call) → All CallFits cs → Reached (start .table) (began start) (leftBy start cs) (happened start cs)
-calls-reach start v cs fs = calls-keeps Any (Reached (start .table) (began start)) (carried (start .table) (began start)) cs start [] fs (starts-reached start v)
+calls-reach start v cs fs = calls-keeps Whatever (Reached (start .table) (began start)) (carried (start .table) (began start)) cs start [] fs (starts-reached start v)
 
 -- ---- releases counted from 0, and internal events numbered from 1
 numbered : (b : Batcher) (ok : Sized b) (events : List (List ℕ)) (q r v p : ℕ) → Goes b ok events q r v p → Leaves events (q + 1) r v p
@@ -232,8 +232,8 @@ pub event-never-six : (t : Table) → Fine t → (rows : ℕ → Bool) (services
     → T (rows row) → (depth : ℕ) (clock : Float) (port job : ℕ) → external t services (suc depth) clock row port job w ≡ refused InvalidModelState → ⊥
 unfolding external
 event-never-six t ok rows services w log told row b e f depth clock port job q =
-    ends-refused {Q = Any} {r = InvalidModelState} (subst (λ (k : Kind). Ends NotSix Any (externalAs t services k (external t services depth clock) clock row port job w)) (sym e)
-    (ends-bind {Q = Any} _ (ends-map {R = Any} (accept-ends b (row-sized t ok row b e) job (asBatcher (stateAt (w .states) row)) sound) (λ r n. seven-not-six r (n .seven)) (λ _ _. tt)) (λ n _. goes tt))) q refl
+    ends-refused {Q = Whatever} {r = InvalidModelState} (subst (λ (k : Kind). Ends NotSix Whatever (externalAs t services k (external t services depth clock) clock row port job w)) (sym e)
+    (ends-bind {Q = Whatever} _ (ends-map {R = Whatever} (accept-ends b (row-sized t ok row b e) job (asBatcher (stateAt (w .states) row)) sound) (λ r n. seven-not-six r (n .seven)) (λ _ _. tt)) (λ n _. goes tt))) q refl
   where
     sound : Sound b (asBatcher (stateAt (w .states) row))
     sound = let l = told row b e f in subst (Sound b) (sym (ap asBatcher (l .state))) (lived-sound t ok row b log e (l .lawful))

@@ -10,6 +10,7 @@ pub mod Arrivals
 pub mod Comes
 pub mod RunOn
 pub mod RunLater
+pub mod Handed
 -- computed runs
 pub mod Cases
 pub mod RunOnCases

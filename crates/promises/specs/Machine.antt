@@ -18,13 +18,13 @@ use Rattle.rules.specs.declared.BatcherPhase.{BatcherPhase}
 use Rattle.rules.specs.declared.BatcherPhase.the-variants as batching
 use Rattle.rules.specs.declared.Batcher.{Batcher}
 use Rattle.rules.specs.Sizes.{mostJobs, largestBatch}
-use Rattle.rules.specs.Base.{Outcome, refused, done, if_then_else_}
+use Rattle.rules.specs.Base.{Outcome, done, if_then_else_}
 use Rattle.rules.specs.Table.{Kind, batcher, Table, kindAt}
 use Rattle.rules.specs.Intake.{kindRules}
 use Rattle.rules.specs.Simulation.{BatcherState, State, ofBatcher, ofCoupled, freshBatcher, stateAt}
 use Rattle.rules.specs.Models.{Kept, keep, joining, batcherExternal, batcherInternal}
 use Rattle.rules.specs.Step.{Out, outAt, Happening, came, went, waited, World, noted, becomes, after}
-use Rattle.rules.specs.Ends.{All, nil, _&_, Ends, stops, goes, ends-if, ends-bind, ends-map}
+use Rattle.rules.specs.Ends.{All, nil, _&_, Ends, stops, goes, ends-if, ends-bind, ends-map, Whatever, ends-whatever, ends-known}
 use Rattle.rules.specs.Depth.{Fine}
 use Rattle.rules.specs.Least.{ownTimer}
 use Rattle.rules.specs.Worlds.{Closed, NotBatcher, after-at}
@@ -376,18 +376,6 @@ same-state x y e = cc
 same-row : (x y : Batcher) → batcher x ≡ batcher y → x ≡ y
 same-row x y e = cc
 
--- ---- of refusals nothing is said here
-abbrev pub Any : {A : Type 0} → A → Type 0
-Any a = Unit {0}
-
-pub any-ends : {A : Type 0} (o : Outcome A) → Ends Any Any o
-any-ends (refused r) = stops tt
-any-ends (done a) = goes tt
-
-ends-known : {A : Type 0} {B : Refusal → Type 0} {Q : A → Type 0} {o : Outcome A} → Ends B Q o → Ends B (λ a. o ≡ done a) o
-ends-known (stops b) = stops b
-ends-known (goes h) = goes refl
-
 module _ (t : Table) (ok : Fine t) where
   pub row-sized : (row : ℕ) (b : Batcher) → kindAt t row ≡ batcher b → Sized b
   row-sized row b e = sized b (subst (λ (z : Kind). All T (kindRules z)) e (ok .kinds row))
@@ -455,10 +443,10 @@ module _ (t : Table) (ok : Fine t) where
     went-else clock i out row d = another-row row i (Released (contents out) ∷ []) d
 
     takes-in : (clock : Float) (i port content : ℕ) (b : Batcher) (s : BatcherState) (w : World) → kindAt t i ≡ batcher b → stateAt (w .states) i ≡ ofBatcher s → ToldIn w
-        → Ends Any (λ n. ToldIn (noted (came clock i port content Kept) (becomes i (ofBatcher n) w))) (batcherExternal b content s)
+        → Ends Whatever (λ n. ToldIn (noted (came clock i port content Kept) (becomes i (ofBatcher n) w))) (batcherExternal b content s)
     takes-in clock i port content b s w e q told = go (began i) refl
       where
-        known : T (began i) → Ends Any (λ n. ToldIn (noted (came clock i port content Kept) (becomes i (ofBatcher n) w))) (batcherExternal b content s)
+        known : T (began i) → Ends Whatever (λ n. ToldIn (noted (came clock i port content Kept) (becomes i (ofBatcher n) w))) (batcherExternal b content s)
         known since =
             let l = told i b e since in
             let sound : Sound b s = subst (Sound b) (same-state (stateThen b i (L ++ w .log)) s (sym (l .state) ∙ q)) (lived-sound i b (L ++ w .log) e (l .lawful)) in
@@ -468,11 +456,11 @@ module _ (t : Table) (ok : Fine t) where
             (at-batcher i b s w (came clock i port content Kept) (Accepted content) e q told (came-else clock i port content) (this-row i (Accepted content ∷ []))
             (k ∙ ap done (sym took))))
 
-        go : (x : Bool) → began i ≡ x → Ends Any (λ n. ToldIn (noted (came clock i port content Kept) (becomes i (ofBatcher n) w))) (batcherExternal b content s)
+        go : (x : Bool) → began i ≡ x → Ends Whatever (λ n. ToldIn (noted (came clock i port content Kept) (becomes i (ofBatcher n) w))) (batcherExternal b content s)
         go true x = known (subst T (sym x) tt)
         go false x =
             let n : (T (began i) → ⊥) = λ h. subst T x h in
-            ends-map (any-ends (batcherExternal b content s)) (λ r _. tt) (λ s₁ _. at-another i (ofBatcher s₁) w (came clock i port content Kept) n told (came-else clock i port content))
+            ends-map (ends-whatever (batcherExternal b content s)) (λ r _. tt) (λ s₁ _. at-another i (ofBatcher s₁) w (came clock i port content Kept) n told (came-else clock i port content))
 
     gives-out : (clock : Float) (i : ℕ) (b : Batcher) (s : BatcherState) (w : World) → kindAt t i ≡ batcher b → stateAt (w .states) i ≡ ofBatcher s → ToldIn w
         → ToldIn (noted (went clock i (map (outAt (b .output)) (batcherInternal b s .1))) (becomes i (ofBatcher (batcherInternal b s .0)) w))
@@ -487,7 +475,7 @@ module _ (t : Table) (ok : Fine t) where
             (contents-back (b .output) (batcherInternal b s .1))
         go false x = at-another i (ofBatcher (batcherInternal b s .0)) w (went clock i out) (λ h. subst T x h) told (went-else clock i out)
 
-    pub told-closed : Closed t Any ToldIn
+    pub told-closed : Closed t Whatever ToldIn
     told-closed = record {
       other = λ r o. tt;
       six = λ i p e c. tt;

@@ -21,13 +21,13 @@ use Rattle.rules.specs.Models.{joining, batcherExternal, batcherInternal}
 use Rattle.rules.specs.Step.{Happening, World, after}
 use Rattle.rules.specs.Calls.{Refused, Call, called}
 use Rattle.rules.specs.Valid.{stateFits}
-use Rattle.rules.specs.Ends.{All, Ends, stops, goes, ends-if, ends-bind, ends-map}
+use Rattle.rules.specs.Ends.{All, Ends, stops, goes, ends-if, ends-bind, ends-map, ends-whatever}
 use Rattle.rules.specs.Depth.{Fine, fine}
 use Rattle.rules.specs.Kept.{Other}
 use Rattle.rules.specs.Worlds.{set-all, Closed, NotBatcher, after-at}
 use Rattle.rules.specs.Runs.{Valid, step-ends, EndsWell, CallFits, Carried, called-keeps, calls-keeps}
 use Rattle.promises.specs.Story.{CapacityNone, HandedInShort, SixElsewhere, happened, leftBy}
-use Rattle.promises.specs.Machine.{Sized, Shape, release-sound, any-ends, row-sized}
+use Rattle.promises.specs.Machine.{Sized, Shape, release-sound, row-sized}
 
 -- ---- a batcher's row that cannot answer with 6: in Release it holds m - 1 at least
 abbrev readyIn : BatcherPhase → ℕ → ℕ → Bool
@@ -129,7 +129,7 @@ ready-closed t ok since = record {
             (λ n r. set-all (λ j z. T (since j) → T (readyAs (kindAt t j) z)) (w .states) i (ofBatcher n) k (λ _. subst (λ (z : Kind). T (readyAs z (ofBatcher n))) (sym e) r))
         go false x =
             let n : (T (since i) → ⊥) = λ h. subst T x h in
-            ends-map (any-ends (batcherExternal b content s)) (λ r _ _. inr (i, b, e, n))
+            ends-map (ends-whatever (batcherExternal b content s)) (λ r _ _. inr (i, b, e, n))
             (λ s₁ _. set-all (λ j z. T (since j) → T (readyAs (kindAt t j) z)) (w .states) i (ofBatcher s₁) k (λ h. absurd (n h)))
 
 record ReadySo (t : Table) (since : ℕ → Bool) (sim : Simulation) (log : List Happening) : Type 0 where

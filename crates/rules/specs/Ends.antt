@@ -169,6 +169,10 @@ ends-done {A} {B} {Q} {a = a} h e = go (subst (λ (z : Outcome A). Ends B Q z) e
     go : Ends B Q (done a) → Q a
     go (goes q) = q
 
+pub ends-known : {A : Type 0} {B : Refusal → Type 0} {Q : A → Type 0} {o : Outcome A} → Ends B Q o → Ends B (λ a. o ≡ done a) o
+ends-known (stops b) = stops b
+ends-known (goes h) = goes refl
+
 -- nothing is asked of an outcome, nor of a refusal
 abbrev pub Whatever : {A : Type 0} → A → Type 0
 Whatever x = Unit {0}

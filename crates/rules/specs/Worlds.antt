@@ -23,7 +23,7 @@ use Rattle.rules.specs.Table.{Kind, processor, batcher, stopwatch, coupl
 use Rattle.rules.specs.Intake.{kindRules, connectorRules, couplingRules}
 use Rattle.rules.specs.Simulation.{BatcherState, StopwatchState, Parked, State, ofProcessor, ofBatcher, ofStopwatch, ofCoupled, Simulation, stateAt, asProcessor, asBatcher, asStopwatch, asCoupled}
 use Rattle.rules.specs.Models.{Fate, Kept, Passed, batcherExternal, batcherInternal, stopwatchInternal}
-use Rattle.rules.specs.Step.{Out, outAt, Happening, came, went, World, noted, becomes, moved, levels, due, External, Internal, externalAs, external, park, hand, turn, internalAs, internal, taken, leastTimer, advance, after, allAfter, later, along, send, rootTurn, stepOn}
+use Rattle.rules.specs.Step.{Out, outAt, Happening, came, went, World, noted, becomes, moved, levels, due, External, Internal, externalAs, external, unpark, park, hand, turn, internalAs, internal, taken, leastTimer, advance, after, allAfter, later, along, send, rootTurn, stepOn}
 use Rattle.rules.specs.Valid.{batcherRules, stopwatchRules, parkedRules, coupledRules, kindNumber, stateNumber, stateRules, stateFits, messageRules}
 use Rattle.rules.specs.Ends.{if-both, no-some, All, nil, _&_, all-any, all-append, all-map, all-those, all-chosen, every-all, all-every, parts, whole-of, Ends, stops, goes, ends-if, ends-bind, ends-map, ends-both, ends-each, ends-most}
 use Rattle.rules.specs.Decides.{tells, passes, timer-decides, processor-decides, batcher-decides, stopwatch-decides, coupled-state-decides, StateKeeps, of-processor, of-batcher, of-stopwatch, of-coupled, state-decides}
@@ -260,6 +260,14 @@ module _ (t : Table) (ok : Fine t) (services : List Float) (short : T (isWord (l
           (all-map parked-as (all-chosen (internalOf (idAt t i) (idAt t j) (m .port)) (ok .inner) (internal-fits (t .rows) (idAt t i) (idAt t j) (m .port)))
           (λ to v. whole-of {bs = parkedRules (parked-as to)} (v .0 & v .1 & f .1 & nil)))
 
+  -- what is parked in the Coupled i goes to its components
+  pub unpark-keeps : (depth : ℕ) (ext : External t services) → ExtKeeps depth ext → (i : ℕ) (w : World) → kindAt t i ≡ coupled → Deep t (suc depth) i → Kept-in w
+      → Ends B Kept-in (unpark t services ext i (asCoupled (stateAt (w .states) i)) w)
+  unpark-keeps depth ext ek i w e deep h =
+      ends-each {P = Deep t depth} _ w (deep e)
+      (λ j w₁ d h₁. ends-each {P = ParkedFits} _ w₁ (all-those (λ (m : Parked). eqb (m .component) (idAt t j)) (parked-fit (asCoupled (stateAt (w .states) i)) (rules-at i coupled w e h)) (λ m q _. q))
+      (λ m w₂ q h₂. ek j (m .port) (m .content) w₂ d (parked-content m (parts (parkedRules m) q)) h₂) h₁) h
+
   pub hand-keeps : (i j : ℕ) (m : Out) (r : World × List Out) → kindAt t i ≡ coupled → OutFits m → Gone r → Ends B Gone (hand t services i j m r)
   hand-keeps i j m r e f h =
       ends-bind _ (park-keeps i j m (r .0) e f (h .0))
@@ -312,10 +320,7 @@ module _ (t : Table) (ok : Fine t) (services : List Float) (short : T (isWord (l
         kept : All T (stopwatchRules (stopwatchInternal p s .0)) × Contents (stopwatchInternal p s .1)
         kept = stopwatch-internal p s (rules-at i (stopwatch p) w e h)
     internalAs-keeps coupled depth ext int ek ik i w e deep h =
-        ends-bind {Q = Kept-in} _
-        (ends-each {P = Deep t depth} _ w (deep e)
-        (λ j w₁ d h₁. ends-each {P = ParkedFits} _ w₁ (all-those (λ (m : Parked). eqb (m .component) (idAt t j)) (parked-fit (asCoupled (stateAt (w .states) i)) (rules-at i coupled w e h)) (λ m q _. q))
-        (λ m w₂ q h₂. ek j (m .port) (m .content) w₂ d (parked-content m (parts (parkedRules m) q)) h₂) h₁) h)
+        ends-bind {Q = Kept-in} _ (unpark-keeps depth ext ek i w e deep h)
         (λ w₁ h₁. ends-bind {Q = Gone} _
         (ends-each {P = Deep t depth} (turn t services depth int i) (becomes i (ofCoupled []) w₁, []) (deep e) (λ j r d g. turn-keeps depth i j int r ik d e g)
         (put-keeps i coupled (ofCoupled []) (w₁ .place) w₁ e tt tt (h₁ .0 .1) h₁, nil))
