@@ -60,7 +60,7 @@ enum jt_refusal {
     JT_NO_SERVICE_TIME = 9,      /* the list of service times is used up */
     JT_BAD_TIME = 10,            /* a service time, an injected time or `until` is below 0, -0.0, above 2^60 or no number */
     JT_CLOCK_OVERFLOW = 11,      /* the new clock is above 2^60 */
-    JT_IDLE = 12,                /* nothing left to do: no active message, every timer infinite */
+    JT_IDLE = 12,                /* nothing left to do: no active or parked message, every timer infinite */
     JT_NO_OUT_ROOM = 13,         /* the rows do not fit the output */
     JT_BAD_STATE = 20            /* the state buffer is too short, or does not hold a simulation as docs/LAYOUT.md lays it */
 };

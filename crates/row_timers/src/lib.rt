@@ -79,7 +79,7 @@ pub fn pass(state: &[u64], mem: &mut [u64], advance: f64)
     }
 }
 
-// One row's timer less the advance: one that never runs out stays, and a Coupled has none of its own.
+// One row's timer less the advance: one that never runs out stays, and a Coupled keeps none.
 fn pass_row(state: &[u64], mem: &mut [u64], row: usize, advance: f64)
     requires { ⌜ Inside (now state) × Laid (tableIn (now state)) (now mem) × (row < length (tableIn (now state) .rows)) × T (isTimer (ownTimer (stateOf (tableIn (now state)) (now mem) row))) × T (isTime advance) ⌝ }
     ensures { λ _. ⌜ Aged (tableIn (now (state .entry))) advance row (now (mem .entry)) (now (mem .exit)) ⌝ }

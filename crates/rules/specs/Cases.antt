@@ -197,7 +197,7 @@ c9 = record {
   then = record { end = Refused Idle; steps = 0; rows = []; states = []; clock = instant; place = 0; active = [] };
 }
 
--- C11 Coupled with batcher (m = 1) feeding an idle processor, one job: it is parked (as amended by 02's A3:) and the second step hands it over. The processor starts it.
+-- C11 Coupled with batcher (m = 1) feeding an idle processor, one job: it is parked, and (as 02's A3 amends it) the second step hands the job over: the processor starts it.
 abbrev pub c11-parked : Case
 c11-parked = record {
   table = chain;

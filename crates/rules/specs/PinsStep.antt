@@ -125,7 +125,7 @@ pub record Coupleds : Type 0 where
         place = 0;
         log = waited two ∷ went five 4 (outAt 2 11 ∷ []) ∷ went five 3 (outAt 6 11 ∷ []) ∷ went five 2 (outAt 7 11 ∷ []) ∷ went five 1 (outAt 8 11 ∷ []) ∷ went five 0 (outAt 9 11 ∷ []) ∷ [];
       }
-  -- "Timer: least of its components', infinite with none."
+  -- "Timer: least of its components', infinite with none." (with nothing parked: 02, A3)
   pub timer-least : stepOf (simulation (tableOf pair [] []) (ofCoupled [] ∷ active (7 ∷ []) two ∷ batch (8 ∷ []) one ∷ ofCoupled [] ∷ []) [] three) .clock ≡ four
   pub timer-none : endOf (simulation (tableOf (row 1 coupled ∷ []) [] []) (ofCoupled [] ∷ []) [] three) ≡ Refused Idle
   -- "Internal: parked messages go to their components in component order, then parked order, and the list is emptied (those for no component are lost). Then each component with timer 0 has its internal event, in order."
@@ -362,7 +362,7 @@ pub record Steps : Type 0 where
       (ofStopwatch (record { phase = watching.Passive; timer = four; jobs = [] }) ∷ batch (8 ∷ []) two ∷ []) [] three)
       ≡ ofStopwatch (record { phase = watching.Passive; timer = two; jobs = [] }) ∷ noBatch ∷ []
   pub advance-inside : stepOf (inHall [] (passive [] never ∷ active (8 ∷ []) four ∷ noBatch ∷ ofCoupled [] ∷ batch (9 ∷ []) one ∷ []) [] three) .clock ≡ four
-  -- "Infinite: refusal 12.": 12 "a step with no active message and every timer infinite"
+  -- "Infinite: refusal 12.": 12 "a step with no active message and every timer infinite", and with nothing parked (`Handings`)
   pub idle : stepOf (inHall [] quiet [] three) ≡ record { end = Refused Idle; states = quiet; active = []; clock = three; place = 0; log = [] }
   pub not-idle : endOf (inHall [] quiet (job 9 1 21 ∷ []) three) ≡ Done
   -- "rounded once"
