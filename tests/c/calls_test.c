@@ -355,7 +355,7 @@ static void test_bad_words(void) {
     guarded_free(b.state);
 }
 
-/* The same of a stopwatch's names and marks, and of a Coupled, which has neither phase nor timer of its own. */
+/* The same of a stopwatch's names and marks, and of a Coupled, which keeps neither phase nor timer. */
 static void test_bad_marks(void) {
     struct bench b;
     memset(&b, 0, sizeof b);

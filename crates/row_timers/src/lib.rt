@@ -15,7 +15,7 @@ ghost use Rattle.sweeps.specs.Skips.{stopFrom};
 ghost use Rattle.row_timers.specs.Passing.{atZero, Passed};
 ghost use Rattle.row_timers.specs.Aging.{Aged};
 
-// The least timer of the models without parent. A Coupled's is 0 or that of a component, so the rows' own timers do. Few are below the least so far, so whether a row's counts is asked last.
+// The least timer of the models without parent, which is the least of all rows' own. A Coupled's own is 0 while a message is parked in it, else infinite. Few are below the least so far, so whether a row's timer counts is asked last.
 pub fn least_timer(state: &[u64], mem: &[u64]) -> f64
     requires { ⌜ Inside (now state) × Ready (tableIn (now state)) (now mem) ⌝ }
     ensures { λ r. ⌜ r ≡ leastTimer (tableIn (now (state .entry))) (statesIn (tableIn (now (state .entry))) (now (mem .entry))) ⌝ }

@@ -1,4 +1,4 @@
--- An external event changes atoms alone, and says what came: what such changes keep, every external event keeps. So it leaves the parked messages of every Coupled as they are. Assumes nothing.
+-- An external event changes only atoms' rows and the place, and adds to the log: what these changes keep, it keeps. So it leaves the parked messages of every Coupled as they are. Assumes nothing.
 use Prim.Native.Nat.{ℕ, zero, suc}
 use mathlib.Core.Path.{_≡_, refl, sym, _∙_, subst}
 use mathlib.Core.Bool.{true, false, true≢false}
@@ -14,7 +14,7 @@ use Rattle.rules.specs.Models.{Fate, Passed, processorExternal, batcherE
 use Rattle.rules.specs.Step.{World, came, noted, becomes, moved, External, externalAs, external}
 use Rattle.rules.specs.Ends.{Ends, stops, goes, Whatever, ends-whatever, ends-done, ends-bind, ends-each, all-any}
 
--- what an external event may do to a world must keep X
+-- X is kept by each change that an external event can make
 pub record Arrives (t : Table) (X : World → Type 0) : Type 0 where
   pub atom : (i place : ℕ) (s : State) (w : World) → isCoupled (kindAt t i) ≡ false → X w → X (becomes i s (moved place w))
   pub message : (clock : Float) (i port content : ℕ) (fate : Fate) (w : World) → X w → X (noted (came clock i port content fate) w)

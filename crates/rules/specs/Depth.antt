@@ -252,14 +252,14 @@ from-below j zero n l = nil
 from-below j (suc k) n l = (let z : j < n = omega arith in z) & from-below (suc j) k n (omega arith)
 
 module _ (t : Table) (ok : Fine t) where
-  abbrev In : ℕ → Type 0
+  abbrev pub In : ℕ → Type 0
   In i = i < length (t .rows)
 
-  all-in : All In (from 0 (length (t .rows)))
+  pub all-in : All In (from 0 (length (t .rows)))
   all-in = from-below 0 (length (t .rows)) (length (t .rows)) (omega arith)
 
   -- a component is one level below its Coupled
-  component-depth : (i j : ℕ) → In i → In j → T (isParent (idAt t i) (rowAt t j .parent)) → depthAt t j ≡ depthAt t i + 1
+  pub component-depth : (i j : ℕ) → In i → In j → T (isParent (idAt t i) (rowAt t j .parent)) → depthAt t j ≡ depthAt t i + 1
   component-depth i j l m s =
       let h = ok .parents j (idAt t i) (tells (parent-decides (idAt t i) (rowAt t j .parent)) s) in
       let b = h .before in

@@ -20,7 +20,7 @@ use Rattle.rules.specs.Exactly.{step-idle}
 use Rattle.rules.specs.Least.{ownTimer, fits-timer, fitted-fits, least-below, least-is}
 use Rattle.rules.specs.Runs.{Valid, valid-of}
 
--- "every timer infinite": those that are kept. A Coupled keeps none, and its own follows from these and what is parked.
+-- "every timer infinite": those that are kept. A Coupled keeps none: its timer follows from these and what is parked.
 abbrev pub Infinite : State → Type 0
 Infinite (ofProcessor s) = s .timer ≡ never
 Infinite (ofBatcher s) = s .timer ≡ never

@@ -68,7 +68,7 @@ atRest = ofCoupled [] ∷ passive [] never ∷ noBatch ∷ ofCoupled [] ∷ []
 abbrev entering : List Coupling → Simulation
 entering couplings = simulation (tableOf pair [] couplings) atRest (job 1 1 11 ∷ []) three
 
--- the Coupled 1 with what is parked in it, a processor 2, a batcher 3 (m = 1), and a stopwatch 5 that makes it due
+-- the Coupled 1 with what is parked in it, a processor 2, a batcher 3 (m = 1), and a stopwatch 5 that is due
 abbrev dueRows : List Row
 dueRows = row 1 coupled ∷ within 1 2 (aProcessor 8) ∷ within 1 3 (aBatcher 1 ten) ∷ within 1 5 (aStopwatch Minimum) ∷ []
 
@@ -261,7 +261,30 @@ pub record Handings : Type 0 where
       ≡ waited instant ∷ came three 1 1 7 Passed ∷ came three 2 1 7 Passed ∷ came three 3 1 7 Passed ∷ came three 4 1 7 Started ∷ went three 0 [] ∷ []
   pub depth-2 : logOf (nested [] (parkedAt 3 1 7 ∷ []) [] []) ≡ waited instant ∷ came three 2 1 7 Passed ∷ came three 3 1 7 Passed ∷ came three 4 1 7 Started ∷ went three 1 [] ∷ went three 0 [] ∷ []
   pub depth-3 : logOf (nested [] [] (parkedAt 4 1 7 ∷ []) []) ≡ waited instant ∷ came three 3 1 7 Passed ∷ came three 4 1 7 Started ∷ went three 2 [] ∷ went three 1 [] ∷ went three 0 [] ∷ []
-  pub depth-4 : logOf (nested [] [] [] (parkedAt 5 1 7 ∷ [])) ≡ waited instant ∷ came three 4 1 7 Started ∷ went three 3 [] ∷ went three 2 [] ∷ went three 1 [] ∷ went three 0 [] ∷ []
+  pub depth-4 : stepOf (nested [] [] [] (parkedAt 5 1 7 ∷ []))
+      ≡ record {
+        end = Done;
+        states = replicate 4 (ofCoupled []) ++ active (7 ∷ []) four ∷ [];
+        active = [];
+        clock = three;
+        place = 1;
+        log = waited instant ∷ came three 4 1 7 Started ∷ went three 3 [] ∷ went three 2 [] ∷ went three 1 [] ∷ went three 0 [] ∷ [];
+      }
+  -- at two depths at once: the outer list first
+  pub both-depths : logOf (nested [] [] (parkedAt 4 1 7 ∷ []) (parkedAt 5 1 8 ∷ []))
+      ≡ waited instant ∷ came three 3 1 7 Passed ∷ came three 4 1 7 Started ∷ came three 4 1 8 Kept ∷ went three 3 [] ∷ went three 2 [] ∷ went three 1 [] ∷ went three 0 [] ∷ []
+  -- two equal messages are two
+  pub equals : logOf (waiting (parkedAt 2 1 7 ∷ parkedAt 2 1 7 ∷ [])) ≡ waited instant ∷ came three 1 1 7 Started ∷ came three 1 1 7 Kept ∷ went three 0 [] ∷ []
+  -- an active message comes before a parked one
+  pub overtaken : logOf (simulation (tableOf pair [] (externalInput 1 1 2 1 ∷ [])) (waiting (parkedAt 2 1 7 ∷ []) .states) (job 1 1 21 ∷ []) three)
+      ≡ came three 0 1 21 Passed ∷ came three 1 1 21 Started ∷ waited instant ∷ came three 1 1 7 Kept ∷ went three 0 [] ∷ []
+  -- for the Coupled itself, or for what is inside a component: lost. For a component that is a Coupled and has no coupling for it: ignored there
+  pub own-id : logOf (nested (parkedAt 1 1 7 ∷ parkedAt 3 1 8 ∷ []) [] [] []) ≡ waited instant ∷ went three 0 [] ∷ []
+  pub no-input : logOf (nested (parkedAt 2 5 7 ∷ []) [] [] []) ≡ waited instant ∷ came three 1 5 7 Passed ∷ went three 0 [] ∷ []
+  -- a message that its component refuses: the step is refused and changes nothing, so every later one is
+  pub refused-there : stepOf (waiting (parkedAt 2 9 7 ∷ [])) ≡ record { end = Refused InvalidMessage; states = waiting (parkedAt 2 9 7 ∷ []) .states; active = []; clock = three; place = 0; log = [] }
+  -- what a batcher of size 1 parks for itself goes round without time passing
+  pub round : stepsOf 4 (simulation (tableOf (row 1 coupled ∷ within 1 2 (aBatcher 1 ten) ∷ row 3 (aBatcher 3 ten) ∷ []) [] (internalCoupling 1 2 2 2 1 ∷ [])) (ofCoupled (parkedAt 2 1 7 ∷ []) ∷ noBatch ∷ batch (8 ∷ []) one ∷ []) [] three) .clock ≡ three
   -- 12 needs every parked list empty
   pub none-parked : stepOf (nested [] [] [] []) .end ≡ Refused Idle
 
@@ -278,6 +301,13 @@ handings = record {
   depth-2 = refl;
   depth-3 = refl;
   depth-4 = refl;
+  both-depths = refl;
+  equals = refl;
+  overtaken = refl;
+  own-id = refl;
+  no-input = refl;
+  refused-there = refl;
+  round = refl;
   none-parked = refl;
 }
 
@@ -318,7 +348,7 @@ pub record Steps : Type 0 where
   -- service times go in the order in which they are needed
   pub places : statesOf (inHall [] quiet (job 2 1 21 ∷ job 1 1 22 ∷ []) three) ≡ active (22 ∷ []) four ∷ active (21 ∷ []) five ∷ noBatch ∷ ofCoupled [] ∷ noBatch ∷ []
   pub places-kept : stepOf (inHall [] quiet (job 2 1 21 ∷ job 1 1 22 ∷ []) three) .place ≡ 2
-  -- the clock that a stopwatch marks is the step's before the advance; what was parked is handed over before any timer runs out (02, A3), so it is marked at the clock at which it was parked
+  -- the clock that a stopwatch marks is the step's before the advance; for what was parked too, since no time passes while anything is parked (02, A3)
   pub watches : stepOf (simulation (tableOf (row 1 (aStopwatch Minimum) ∷ []) [] []) (watch [] ∷ []) (job 1 2 21 ∷ []) three)
       ≡ record { end = Done; states = watch (record { name = 21; start = none; stop = some three } ∷ []) ∷ []; active = []; clock = three; place = 0; log = came three 0 2 21 Marked ∷ waited instant ∷ [] }
   pub watches-parked : stepOf (simulation (tableOf dueRows [] []) (ofCoupled (parkedAt 5 1 21 ∷ []) ∷ passive [] never ∷ batch (22 ∷ []) two ∷ watch [] ∷ []) [] three)
