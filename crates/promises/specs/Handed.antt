@@ -1,11 +1,12 @@
 -- A3 of document 02: what is parked is not stranded. While a message is parked anywhere, no step is refused with 12. In the next step that is not refused, a Coupled that holds a message has its internal event, its first in that step, with its list as it was, and without time passing; in it each message that is parked for a component comes to that component. Assumes nothing.
-use Prim.Native.Nat.{ℕ, zero, suc, _<_}
+use Prim.Native.Nat.{ℕ, zero, suc, _+_, _≤_, _<_}
 use mathlib.Core.Path.{_≡_, refl, sym, ap, _∙_, subst}
 use mathlib.Core.Logic.{_⊎_, inl, inr}
 use mathlib.Core.Bool.{Bool, true, false}
 use mathlib.Core.List.{List, [], _∷_, _++_, map, append-assoc, append-nil}
 use native.Mathlib.Omega.{arith}
-use lib.ListN.{length}
+use lib.ListN.{length, set, length-set}
+use lib.Seq.{getD-set-same}
 use lib.Dec.{T, eqb, eqb→eq, eqb-refl, T-not}
 use lib.Ieee.{Float, binary64, add, le}
 use Rattle.times.specs.Time.{instant, isNever, isTime, isTimer}
@@ -13,15 +14,14 @@ use Rattle.times.specs.Laws as law
 use Rattle.rules.specs.declared.Refusal.the-variants.{NoMessageRoom, Idle}
 use Rattle.rules.specs.declared.Message.{Message}
 use Rattle.rules.specs.Sizes.{isWord, mostParked, mostOut}
-use Rattle.rules.specs.Base.{Outcome, refused, done, each, those, atMost}
+use Rattle.rules.specs.Base.{Outcome, refused, done, if_then_else_, each, those, atMost}
 use Rattle.rules.specs.Table.{Kind, processor, batcher, stopwatch, coupled, Table, Target, rowAt, idAt, kindAt, isParent, isParentless, parentless, components, inputs, outputs, internals}
 use Rattle.rules.specs.Simulation.{Parked, State, ofProcessor, ofBatcher, ofStopwatch, ofCoupled, Simulation, stateAt, asProcessor, asBatcher, asStopwatch, asCoupled}
 use Rattle.rules.specs.Models.{Fate, Kept, Passed, processorExternal, processorInternal, batcherExternal, batcherInternal, stopwatchExternal, stopwatchInternal}
 use Rattle.rules.specs.Step.{Out, outAt, Happening, came, went, waited, World, noted, becomes, moved, levels, due, externalAs, external, unpark, hand, turn, internalAs, internal, taken, leastTimer, advance, after, allAfter, later, send, rootTurn, stepOn, oneStep}
 use Rattle.rules.specs.Valid.{stateFits, isValid}
-use Rattle.rules.specs.Ends.{All, nil, _&_, Among, among-all, among-those, all-any, all-append, Ends, stops, goes, ends-if, ends-bind, ends-map, ends-both, ends-done, Whatever, ends-whatever, ends-known, ends-each, ends-meets}
-use Rattle.rules.specs.Decides.{Any, here, there}
-use Rattle.rules.specs.Depth.{Fine, fine, Deep, parentless-deep, by-parent}
+use Rattle.rules.specs.Ends.{All, nil, _&_, Among, among-all, all-imp, all-those, all-any, all-append, Ends, stops, goes, ends-if, ends-bind, ends-map, ends-both, ends-done, Whatever, ends-whatever, ends-known, ends-each, ends-most, ends-meets}
+use Rattle.rules.specs.Depth.{Fine, fine, depthAt, all-in, component-depth, Deep, parentless-deep, by-parent}
 use Rattle.rules.specs.Least.{Fitted, ownTimer, among, due-parked, due-component, least-below, least-is-timer}
 use Rattle.rules.specs.Arriving.{Arrives, arriving, atom-other, set-other}
 use Rattle.rules.specs.Worlds.{Good, fitted-set, after-at, fitted-after, advance-ends, later-ends, Gone, external-keeps, internal-keeps, unpark-keeps, turn-keeps, Sent, taken-keeps, rootTurn-keeps, worldOf}
@@ -31,18 +31,35 @@ use Rattle.rules.specs.Idle.{idle-exactly}
 
 -- ---- what is said
 -- what is parked in the row i
-abbrev pub parkedAt : Simulation → ℕ → List Parked
-parkedAt sim i = asCoupled (stateAt (sim .states) i)
+abbrev pub listOf : Simulation → ℕ → List Parked
+listOf sim i = asCoupled (stateAt (sim .states) i)
 
--- the message comes to the row j at that clock, whatever becomes of it there
-abbrev pub ComesTo : Float → ℕ → Parked → Happening → Type 0
-ComesTo clock j m h = (fate : Fate) × (h ≡ came clock j (m .port) (m .content) fate)
+abbrev pub isComponent : Table → ℕ → ℕ → Bool
+isComponent t i k = isParent (idAt t i) (rowAt t k .parent)
 
--- of the log behind L, something is so of one happening
-pub record Since (L : List Happening) (P : Happening → Type 0) (log : List Happening) : Type 0 where
-  pub more : List Happening
-  pub behind-it : log ≡ L ++ more
-  pub one : Any P more
+-- what comes to the components of the row i, in order: to which row, at which port, what
+abbrev pub comings : Table → ℕ → List Happening → List (ℕ × ℕ × ℕ)
+comings t i [] = []
+comings t i (came clock k port content fate ∷ log) = if isComponent t i k then (k, port, content) ∷ comings t i log else comings t i log
+comings t i (went clock k out ∷ log) = comings t i log
+comings t i (waited advance ∷ log) = comings t i log
+
+-- "parked messages go to their components in component order, then parked order"
+abbrev pub handedTo : Table → List Parked → List ℕ → List (ℕ × ℕ × ℕ)
+handedTo t parked [] = []
+handedTo t parked (c ∷ cs) = map (λ (m : Parked). (c, m .port, m .content)) (those (λ (m : Parked). eqb (m .component) (idAt t c)) parked) ++ handedTo t parked cs
+
+-- what the row i parks of what its component k puts out
+abbrev pub parkedBy : Table → ℕ → ℕ → List Out → List Parked
+parkedBy t i k [] = []
+parkedBy t i k (m ∷ out) = map (λ (to : Target). record { component = to .target; port = to .port; content = m .content }) (internals t (idAt t i) (idAt t k) (m .port)) ++ parkedBy t i k out
+
+-- what is newly parked in the row i, by what its components put out
+abbrev pub newly : Table → ℕ → List Happening → List Parked
+newly t i [] = []
+newly t i (came clock k port content fate ∷ log) = newly t i log
+newly t i (went clock k out ∷ log) = if isComponent t i k then parkedBy t i k out ++ newly t i log else newly t i log
+newly t i (waited advance ∷ log) = newly t i log
 
 -- no internal event of the row i
 abbrev pub NotItsEvent : ℕ → Happening → Type 0
@@ -50,40 +67,35 @@ NotItsEvent i (came clock j port content fate) = Unit {0}
 NotItsEvent i (went clock j out) = j ≡ i → ⊥
 NotItsEvent i (waited advance) = Unit {0}
 
--- the log tells of an internal event of the row i at that clock, its first, with `parked` in its list; and each message that was parked for a component comes to it in that event
+-- a log tells of an internal event of the row i at that clock, the first that it tells of, from the world `before` to the world `left`. The list is `parked` before it. What comes to the components in the event is what was parked for them and nothing else, each message once, in 01's order; and what is in the list after it was put out by the components in it.
 pub record HandsOver (t : Table) (services : List Float) (clock : Float) (i : ℕ) (parked : List Parked) (log : List Happening) : Type 0 where
   pub depth : ℕ
   pub before : World
   pub left : World
   pub out : List Out
+  pub deep-enough : Deep t depth i
   pub event : internal t services depth clock i before ≡ done (left, out)
   pub held : asCoupled (stateAt (before .states) i) ≡ parked
   pub its-first : All (NotItsEvent i) (before .log)
-  pub handed : (m : Parked) (j : ℕ) → Among m parked → Among j (components t (idAt t i)) → idAt t j ≡ m .component → Since (before .log) (ComesTo clock j m) (left .log)
+  pub since : List Happening
+  pub behind-it : left .log ≡ before .log ++ since
+  pub handed : comings t i since ≡ handedTo t parked (components t (idAt t i))
+  pub list-after : asCoupled (stateAt (left .states) i) ≡ newly t i since
   pub rest : List Happening
   pub told : log ≡ left .log ++ rest
 
--- ---- what only grows with the log
+-- a row with something parked is one of the rows
+in-rows : (states : List State) (i : ℕ) → (asCoupled (stateAt states i) ≡ [] → ⊥) → i < length states
+in-rows [] i n = absurd (n refl)
+in-rows (s ∷ states) zero n = omega arith
+in-rows (s ∷ states) (suc i) n = let l = in-rows states i n in omega arith
+
+-- ---- what stays true when more is logged
 abbrev Lasting : (List Happening → Type 0) → Type 0
 Lasting P = (log more : List Happening) → P log → P (log ++ more)
 
-any-before : {P : Happening → Type 0} {xs : List Happening} (ys : List Happening) → Any P xs → Any P (xs ++ ys)
-any-before ys (here p) = here p
-any-before ys (there p) = there (any-before ys p)
-
-any-last : {P : Happening → Type 0} (xs : List Happening) (h : Happening) → P h → Any P (xs ++ h ∷ [])
-any-last [] h p = here p
-any-last (x ∷ xs) h p = there (any-last xs h p)
-
 abbrev Grown : List Happening → List Happening → Type 0
 Grown L log = (more : List Happening) × (log ≡ L ++ more)
-
-grown-lasts : (L : List Happening) → Lasting (Grown L)
-grown-lasts L log more (m, e) = (m ++ more, ap (λ (z : List Happening). z ++ more) e ∙ append-assoc L m more)
-
-since-lasts : (L : List Happening) (P : Happening → Type 0) → Lasting (Since L P)
-since-lasts L P log more s =
-    record { more = s .more ++ more; behind-it = ap (λ (z : List Happening). z ++ more) (s .behind-it) ∙ append-assoc L (s .more) more; one = any-before more (s .one) }
 
 hands-lasts : (t : Table) (services : List Float) (clock : Float) (i : ℕ) (parked : List Parked) → Lasting (HandsOver t services clock i parked)
 hands-lasts t services clock i parked log more h = record {
@@ -93,8 +105,12 @@ hands-lasts t services clock i parked log more h = record {
   out = h .out;
   event = h .event;
   held = h .held;
+  deep-enough = h .deep-enough;
   its-first = h .its-first;
+  since = h .since;
+  behind-it = h .behind-it;
   handed = h .handed;
+  list-after = h .list-after;
   rest = h .rest ++ more;
   told = ap (λ (z : List Happening). z ++ more) (h .told) ∙ append-assoc (h .left .log) (h .rest) more;
 }
@@ -131,10 +147,6 @@ module _ (t : Table) (services : List Float) (clock : Float) where
     abbrev In : World → Type 0
     In w = P (w .log)
 
-    external-lasts : (depth j port content : ℕ) (w : World) → In w → Ends Whatever In (external t services depth clock j port content w)
-    external-lasts depth j port content w p =
-        arriving t services In (record { atom = λ i place s z a q. q; message = λ clock i port content fate z q. lasts (z .log) (came clock i port content fate ∷ []) q }) depth clock j port content w p
-
     internal-lasts : (depth k : ℕ) (w : World) → In w → Ends Whatever (λ r. In (r .0)) (internal t services depth clock k w)
     internal-lasts depth k w p = ends-map (internal-grows depth k w) (λ r b. b) (λ r g. subst P (sym (g .1)) (lasts (w .log) (g .0) p))
 
@@ -150,80 +162,349 @@ module _ (t : Table) (services : List Float) (clock : Float) where
         (λ _. ends-bind _ (internal-lasts levels k (r .0) p) (λ x q. ends-bind {Q = Whatever} _ (ends-whatever (each (send t clock k) (x .1) (r .1))) (λ sent _. goes {a = (x .0, sent)} q)))
         (λ _. goes {a = r} p)
 
-  -- ---- an external event at the row j tells of itself
-  module _ (L : List Happening) (j : ℕ) (m : Parked) where
-    abbrev Told : List Happening → Type 0
-    Told = Since L (ComesTo clock j m)
+  -- its internal event, at any depth
+  event-as : {Q : World × List Out → Type 0} (depth k : ℕ) (w : World) → kindAt t k ≡ coupled → Ends Whatever Q (internalAs t services coupled depth (external t services depth clock) (internal t services depth clock) clock k w)
+      → Ends Whatever Q (internal t services (suc depth) clock k w)
+  unfolding internal
+  event-as {Q} depth k w e h = subst (λ (z : Kind). Ends Whatever Q (internalAs t services z depth (external t services depth clock) (internal t services depth clock) clock k w)) (sym e) h
 
-    tells-now : (fate : Fate) (log : List Happening) → Grown L log → Told (log ++ came clock j (m .port) (m .content) fate ∷ [])
-    tells-now fate log g = let now = came clock j (m .port) (m .content) fate in record {
-      more = g .0 ++ now ∷ [];
-      behind-it = ap (λ (z : List Happening). z ++ now ∷ []) (g .1) ∙ append-assoc L (g .0) (now ∷ []);
-      one = any-last (g .0) now (fate, refl);
+  -- ---- an event happens at its row and below it, and changes no row that is less deep
+  module _ (ok : Fine t) where
+    abbrev Inner : ℕ → Happening → Type 0
+    Inner d (came clock k port content fate) = (k < length (t .rows)) × (d < depthAt t k)
+    Inner d (went clock k out) = (k < length (t .rows)) × (d < depthAt t k)
+    Inner d (waited advance) = Unit {0}
+
+    inner-up : (d : ℕ) (h : Happening) → Inner (d + 1) h → Inner d h
+    inner-up d (came clock k port content fate) (l, b) = (l, omega arith)
+    inner-up d (went clock k out) (l, b) = (l, omega arith)
+    inner-up d (waited advance) u = tt
+
+    record Above (d : ℕ) (states later : List State) : Type 0 where
+      long : length later ≡ length states
+      same : (r : ℕ) → depthAt t r < d → stateAt later r ≡ stateAt states r
+
+    above-on : {d : ℕ} {x y z : List State} → Above d x y → Above d y z → Above d x z
+    above-on a b = record { long = b .long ∙ a .long; same = λ r l. b .same r l ∙ a .same r l }
+
+    above-less : {d e : ℕ} {x y : List State} → e ≤ d → Above d x y → Above e x y
+    above-less l a = record { long = a .long; same = λ r b. a .same r (omega arith) }
+
+    record Reach (d : ℕ) (w z : World) : Type 0 where
+      more : List Happening
+      is : z .log ≡ w .log ++ more
+      inner : All (Inner d) more
+      above : Above d (w .states) (z .states)
+
+    record Comes (j port content : ℕ) (w z : World) : Type 0 where
+      fate : Fate
+      more : List Happening
+      is : z .log ≡ w .log ++ came clock j port content fate ∷ more
+      inner : All (Inner (depthAt t j)) more
+      above : Above (depthAt t j) (w .states) (z .states)
+
+    record Goes (j : ℕ) (w : World) (r : World × List Out) : Type 0 where
+      more : List Happening
+      is : r .0 .log ≡ w .log ++ (more ++ went clock j (r .1) ∷ [])
+      inner : All (Inner (depthAt t j)) more
+      above : Above (depthAt t j) (w .states) (r .0 .states)
+
+    joined : (L a b : List Happening) (y z : List Happening) → y ≡ L ++ a → z ≡ y ++ b → z ≡ L ++ (a ++ b)
+    joined L a b y z e f = f ∙ ap (λ (x : List Happening). x ++ b) e ∙ append-assoc L a b
+
+    reach-none : (d : ℕ) (w : World) → Reach d w w
+    reach-none d w = record { more = []; is = sym (append-nil (w .log)); inner = nil; above = record { long = refl; same = λ r l. refl } }
+
+    reach-on : {d : ℕ} {w z y : World} → Reach d w z → Reach d z y → Reach d w y
+    reach-on {d} {w} {z} {y} a b = record {
+      more = a .more ++ b .more;
+      is = joined (w .log) (a .more) (b .more) (z .log) (y .log) (a .is) (b .is);
+      inner = all-append (a .inner) (b .inner);
+      above = above-on (a .above) (b .above);
     }
 
-    tells-as : (k : Kind) (depth : ℕ) (w : World) → Grown L (w .log) → Ends Whatever (λ z. Told (z .log)) (externalAs t services k (external t services depth clock) clock j (m .port) (m .content) w)
-    tells-as (processor p) depth w g = ends-bind _ (ends-whatever (processorExternal p services (m .port) (m .content) (asProcessor (stateAt (w .states) j)) (w .place))) (λ r _. goes (tells-now (r .2) (w .log) g))
-    tells-as (batcher b) depth w g = ends-bind _ (ends-whatever (batcherExternal b (m .content) (asBatcher (stateAt (w .states) j)))) (λ n _. goes (tells-now Kept (w .log) g))
-    tells-as (stopwatch p) depth w g = ends-bind _ (ends-whatever (stopwatchExternal p clock (m .port) (m .content) (asStopwatch (stateAt (w .states) j)))) (λ r _. goes (tells-now (r .1) (w .log) g))
-    tells-as coupled depth w g =
-        ends-each {P = Whatever} _ _ (all-any (inputs t (idAt t j) (m .port)) (λ _. tt))
-        (λ (to : Target) w₁ _ q. ends-each {P = Whatever} _ w₁ (all-any (those (λ c. eqb (idAt t c) (to .target)) (components t (idAt t j))) (λ _. tt)) (λ c w₂ _ q. external-lasts Told (since-lasts L (ComesTo clock j m)) depth c (to .port) (m .content) w₂ q) q)
-        (tells-now Passed (w .log) g)
+    put-above : (j : ℕ) (s : State) (states : List State) → Above (depthAt t j) states (set states j s)
+    put-above j s states = record { long = length-set states j s; same = λ r l. set-other j r s states (λ e. let n = ap (depthAt t) e in omega arith) }
 
-    tells : (depth : ℕ) (w : World) → Grown L (w .log) → Ends Whatever (λ z. Told (z .log)) (external t services depth clock j (m .port) (m .content) w)
+    put-reach : (j : ℕ) (s : State) (w : World) → Reach (depthAt t j) w (becomes j s w)
+    put-reach j s w = record { more = []; is = sym (append-nil (w .log)); inner = nil; above = put-above j s (w .states) }
+
+    abbrev Part : ℕ → ℕ → Type 0
+    Part i c = (c < length (t .rows)) × T (isComponent t i c)
+
+    parts-of : (i : ℕ) → All (Part i) (components t (idAt t i))
+    parts-of i = all-those (isComponent t i) (all-in t ok) (λ c l s. (l, s))
+
+    one-deeper : (i c : ℕ) → i < length (t .rows) → Part i c → depthAt t c ≡ depthAt t i + 1
+    one-deeper i c l p = component-depth t ok i c l (p .0) (p .1)
+
+    comes-reach : {i c port content : ℕ} {w z : World} → i < length (t .rows) → Part i c → Comes c port content w z → Reach (depthAt t i) w z
+    comes-reach {i} {c} {port} {content} {w} {z} l p a = let e = one-deeper i c l p in let one : Inner (depthAt t i) (came clock c port content (a .fate)) = (p .0, omega arith) in record {
+      more = came clock c port content (a .fate) ∷ a .more;
+      is = a .is;
+      inner = one & all-imp (inner-up (depthAt t i)) (subst (λ (d : ℕ). All (Inner d) (a .more)) e (a .inner));
+      above = above-less (omega arith) (a .above);
+    }
+
+    goes-reach : {i c : ℕ} {w : World} {r : World × List Out} → i < length (t .rows) → Part i c → Goes c w r → Reach (depthAt t i) w (r .0)
+    goes-reach {i} {c} {w} {r} l p a = let e = one-deeper i c l p in let one : Inner (depthAt t i) (went clock c (r .1)) = (p .0, omega arith) in record {
+      more = a .more ++ went clock c (r .1) ∷ [];
+      is = a .is;
+      inner = all-append (all-imp (inner-up (depthAt t i)) (subst (λ (d : ℕ). All (Inner d) (a .more)) e (a .inner))) (one & nil);
+      above = above-less (omega arith) (a .above);
+    }
+
+    comes-on : {j port content : ℕ} {w z y : World} → Comes j port content w z → Reach (depthAt t j) z y → Comes j port content w y
+    comes-on {j} {port} {content} {w} {z} {y} a b = record {
+      fate = a .fate;
+      more = a .more ++ b .more;
+      is = joined (w .log) (came clock j port content (a .fate) ∷ a .more) (b .more) (z .log) (y .log) (a .is) (b .is);
+      inner = all-append (a .inner) (b .inner);
+      above = above-on (a .above) (b .above);
+    }
+
+    comes-atom : (j port content place : ℕ) (fate : Fate) (s : State) (w : World) → Comes j port content w (noted (came clock j port content fate) (becomes j s (moved place w)))
+    comes-atom j port content place fate s w = record { fate = fate; more = []; is = refl; inner = nil; above = put-above j s (w .states) }
+
+    external-as : (k : Kind) (depth j port content : ℕ) (w : World) → j < length (t .rows) → ((c port content : ℕ) (w : World) → c < length (t .rows) → Ends Whatever (Comes c port content w) (external t services depth clock c port content w))
+        → Ends Whatever (Comes j port content w) (externalAs t services k (external t services depth clock) clock j port content w)
+    external-as (processor p) depth j port content w l rec =
+        ends-bind _ (ends-whatever (processorExternal p services port content (asProcessor (stateAt (w .states) j)) (w .place))) (λ r _. goes (comes-atom j port content (r .1) (r .2) (ofProcessor (r .0)) w))
+    external-as (batcher b) depth j port content w l rec =
+        ends-bind _ (ends-whatever (batcherExternal b content (asBatcher (stateAt (w .states) j)))) (λ n _. goes (comes-atom j port content (w .place) Kept (ofBatcher n) w))
+    external-as (stopwatch p) depth j port content w l rec =
+        ends-bind _ (ends-whatever (stopwatchExternal p clock port content (asStopwatch (stateAt (w .states) j)))) (λ r _. goes (comes-atom j port content (w .place) (r .1) (ofStopwatch (r .0)) w))
+    external-as coupled depth j port content w l rec =
+        ends-each {P = Whatever} _ _ (all-any (inputs t (idAt t j) port) (λ _. tt))
+        (λ (to : Target) w₁ _ a. ends-each {P = Part j} _ w₁ (all-those (λ c. eqb (idAt t c) (to .target)) (parts-of j) (λ c p _. p))
+        (λ c w₂ p b. ends-map (rec c (to .port) content w₂ (p .0)) (λ r x. x) (λ z x. comes-on b (comes-reach l p x))) a)
+        (record { fate = Passed; more = []; is = refl; inner = nil; above = record { long = refl; same = λ r l. refl } })
+
+    external-comes : (depth j port content : ℕ) (w : World) → j < length (t .rows) → Ends Whatever (Comes j port content w) (external t services depth clock j port content w)
     unfolding external
-    tells zero w g = stops tt
-    tells (suc depth) w g = tells-as (kindAt t j) depth w g
+    external-comes zero j port content w l = stops tt
+    external-comes (suc depth) j port content w l = external-as (kindAt t j) depth j port content w l (external-comes depth)
+
+    goes-atom : (j place : ℕ) (s : State) (out : List Out) (w : World) → Goes j w (noted (went clock j out) (becomes j s (moved place w)), out)
+    goes-atom j place s out w = record { more = []; is = refl; inner = nil; above = put-above j s (w .states) }
+
+    internal-as : (k : Kind) (depth j : ℕ) (w : World) → j < length (t .rows) → ((c : ℕ) (w : World) → c < length (t .rows) → Ends Whatever (Goes c w) (internal t services depth clock c w))
+        → Ends Whatever (Goes j w) (internalAs t services k depth (external t services depth clock) (internal t services depth clock) clock j w)
+    internal-as (processor p) depth j w l rec =
+        ends-bind _ (ends-whatever (processorInternal services (asProcessor (stateAt (w .states) j)) (w .place))) (λ r _. goes (goes-atom j (r .1) (ofProcessor (r .0)) (map (outAt (p .output)) (r .2)) w))
+    internal-as (batcher b) depth j w l rec =
+        let r = batcherInternal b (asBatcher (stateAt (w .states) j)) in goes (goes-atom j (w .place) (ofBatcher (r .0)) (map (outAt (b .output)) (r .1)) w)
+    internal-as (stopwatch p) depth j w l rec =
+        let r = stopwatchInternal p (asStopwatch (stateAt (w .states) j)) in goes (goes-atom j (w .place) (ofStopwatch (r .0)) (map (outAt (p .output)) (r .1)) w)
+    internal-as coupled depth j w l rec =
+        ends-bind {Q = Reach (depthAt t j) w} _
+        (ends-each {P = Part j} _ w (parts-of j)
+        (λ c w₁ p a. ends-each {P = Whatever} _ w₁ (all-any (those (λ (m : Parked). eqb (m .component) (idAt t c)) (asCoupled (stateAt (w .states) j))) (λ _. tt))
+        (λ m w₂ _ b. ends-map (external-comes depth c (m .port) (m .content) w₂ (p .0)) (λ r x. x) (λ z x. reach-on b (comes-reach l p x))) a) (reach-none (depthAt t j) w))
+        (λ w₁ a. ends-bind {Q = λ r. Reach (depthAt t j) w (r .0)} _
+        (ends-each {P = Part j} (turn t services depth (internal t services depth clock) j) (becomes j (ofCoupled []) w₁, []) (parts-of j)
+        (λ c r p b. ends-if (due t depth (r .0 .states) c)
+        (λ _. ends-bind _ (rec c (r .0) (p .0)) (λ x g. hands-keep (Reach (depthAt t j) w) j c (λ z list q. reach-on q (put-reach j (ofCoupled list) z)) (x .1) (x .0, r .1) (reach-on b (goes-reach l p g))))
+        (λ _. goes {a = r} b))
+        (reach-on a (put-reach j (ofCoupled []) w₁)))
+        (λ r a. goes {a = (noted (went clock j (r .1)) (r .0), r .1)} (record {
+          more = a .more;
+          is = joined (w .log) (a .more) (went clock j (r .1) ∷ []) (r .0 .log) (r .0 .log ++ went clock j (r .1) ∷ []) (a .is) refl;
+          inner = a .inner;
+          above = a .above;
+        })))
+
+    internal-goes : (depth j : ℕ) (w : World) → j < length (t .rows) → Ends Whatever (Goes j w) (internal t services depth clock j w)
+    unfolding internal
+    internal-goes zero j w l = stops tt
+    internal-goes (suc depth) j w l = internal-as (kindAt t j) depth j w l (internal-goes depth)
+
+    -- ---- the event of the Coupled i: what comes to its components, and what is in its list
+    module _ (i : ℕ) (li : i < length (t .rows)) where
+      apart : (k : ℕ) → k < length (t .rows) → depthAt t i + 1 < depthAt t k → isComponent t i k ≡ false
+      apart k l d = go (isComponent t i k) (λ u. one-deeper i k li (l, u))
+        where
+          go : (b : Bool) → (T b → depthAt t k ≡ depthAt t i + 1) → b ≡ false
+          go true f = absurd (let e = f tt in omega arith)
+          go false f = refl
+
+      comings-append : (xs ys : List Happening) → comings t i (xs ++ ys) ≡ comings t i xs ++ comings t i ys
+      comings-append [] ys = refl
+      comings-append (came clock k port content fate ∷ xs) ys = go (isComponent t i k) (comings-append xs ys)
+        where
+          go : (b : Bool) → comings t i (xs ++ ys) ≡ comings t i xs ++ comings t i ys
+              → (if b then (k, port, content) ∷ comings t i (xs ++ ys) else comings t i (xs ++ ys)) ≡ (if b then (k, port, content) ∷ comings t i xs else comings t i xs) ++ comings t i ys
+          go true e = ap (λ (z : List (ℕ × ℕ × ℕ)). (k, port, content) ∷ z) e
+          go false e = e
+      comings-append (went clock k out ∷ xs) ys = comings-append xs ys
+      comings-append (waited advance ∷ xs) ys = comings-append xs ys
+
+      newly-append : (xs ys : List Happening) → newly t i (xs ++ ys) ≡ newly t i xs ++ newly t i ys
+      newly-append [] ys = refl
+      newly-append (came clock k port content fate ∷ xs) ys = newly-append xs ys
+      newly-append (went clock k out ∷ xs) ys = go (isComponent t i k) (newly-append xs ys)
+        where
+          go : (b : Bool) → newly t i (xs ++ ys) ≡ newly t i xs ++ newly t i ys
+              → (if b then parkedBy t i k out ++ newly t i (xs ++ ys) else newly t i (xs ++ ys)) ≡ (if b then parkedBy t i k out ++ newly t i xs else newly t i xs) ++ newly t i ys
+          go true e = ap (λ (z : List Parked). parkedBy t i k out ++ z) e ∙ sym (append-assoc (parkedBy t i k out) (newly t i xs) (newly t i ys))
+          go false e = e
+      newly-append (waited advance ∷ xs) ys = newly-append xs ys
+
+      -- further inside, nothing comes to a component, and none of them goes
+      abbrev Inside : List Happening → Type 0
+      Inside log = All (Inner (depthAt t i + 1)) log
+
+      comings-inside : {log : List Happening} → Inside log → comings t i log ≡ []
+      comings-inside nil = refl
+      comings-inside (_&_ {x = came clock k port content fate} {xs = xs} h p) = ap (λ (b : Bool). if b then (k, port, content) ∷ comings t i xs else comings t i xs) (apart k (h .0) (h .1)) ∙ comings-inside p
+      comings-inside (_&_ {x = went clock k out} h p) = comings-inside p
+      comings-inside (_&_ {x = waited advance} h p) = comings-inside p
+
+      newly-inside : {log : List Happening} → Inside log → newly t i log ≡ []
+      newly-inside nil = refl
+      newly-inside (_&_ {x = came clock k port content fate} h p) = newly-inside p
+      newly-inside (_&_ {x = went clock k out} {xs = xs} h p) = ap (λ (b : Bool). if b then parkedBy t i k out ++ newly t i xs else newly t i xs) (apart k (h .0) (h .1)) ∙ newly-inside p
+      newly-inside (_&_ {x = waited advance} h p) = newly-inside p
+
+      -- from w to z this came to the components, and of what they put out this list is made
+      record Hand (w : World) (arrived : List (ℕ × ℕ × ℕ)) (parked : List Parked) (z : World) : Type 0 where
+        more : List Happening
+        is : z .log ≡ w .log ++ more
+        arrives : comings t i more ≡ arrived
+        parks : newly t i more ≡ parked
+        long : length (z .states) ≡ length (w .states)
+
+      hand-on : {w z y : World} {a b : List (ℕ × ℕ × ℕ)} {p q : List Parked} → Hand w a p z → Hand z b q y → Hand w (a ++ b) (p ++ q) y
+      hand-on {w} {z} {y} h k = record {
+        more = h .more ++ k .more;
+        is = joined (w .log) (h .more) (k .more) (z .log) (y .log) (h .is) (k .is);
+        arrives = comings-append (h .more) (k .more) ∙ rw (h .arrives, k .arrives) refl;
+        parks = newly-append (h .more) (k .more) ∙ rw (h .parks, k .parks) refl;
+        long = k .long ∙ h .long;
+      }
+
+      hand-none : (w : World) → Hand w [] [] w
+      hand-none w = record { more = []; is = sym (append-nil (w .log)); arrives = refl; parks = refl; long = refl }
+
+      is-part : (c : ℕ) → Part i c → isComponent t i c ≡ true
+      is-part c p = go (isComponent t i c) (p .1)
+        where
+          go : (b : Bool) → T b → b ≡ true
+          go true u = refl
+          go false u = absurd u
+
+      hand-comes : {c port content : ℕ} {w z : World} → Part i c → Comes c port content w z → Hand w ((c, port, content) ∷ []) [] z
+      hand-comes {c} {port} {content} p a = let inner = subst (λ (d : ℕ). All (Inner d) (a .more)) (one-deeper i c li p) (a .inner) in record {
+        more = came clock c port content (a .fate) ∷ a .more;
+        is = a .is;
+        arrives = ap (λ (b : Bool). if b then (c, port, content) ∷ comings t i (a .more) else comings t i (a .more)) (is-part c p) ∙ ap (λ (z : List (ℕ × ℕ × ℕ)). (c, port, content) ∷ z) (comings-inside inner);
+        parks = newly-inside inner;
+        long = a .above .long;
+      }
+
+      hand-goes : {c : ℕ} {w : World} {r : World × List Out} → Part i c → Goes c w r → Hand w [] (parkedBy t i c (r .1)) (r .0)
+      hand-goes {c} {w} {r} p a = let inner = subst (λ (d : ℕ). All (Inner d) (a .more)) (one-deeper i c li p) (a .inner) in record {
+        more = a .more ++ went clock c (r .1) ∷ [];
+        is = a .is;
+        arrives = comings-append (a .more) (went clock c (r .1) ∷ []) ∙ rw (comings-inside inner) refl;
+        parks =
+            newly-append (a .more) (went clock c (r .1) ∷ [])
+            ∙ ap (λ (z : List Parked). z ++ newly t i (went clock c (r .1) ∷ [])) (newly-inside inner)
+            ∙ ap (λ (b : Bool). if b then parkedBy t i c (r .1) ++ [] else []) (is-part c p)
+            ∙ append-nil (parkedBy t i c (r .1));
+        long = a .above .long;
+      }
+
+      -- what the component c takes, and what all take
+      takes : (depth c : ℕ) → Part i c → (ms : List Parked) (w : World) → Ends Whatever (Hand w (map (λ (m : Parked). (c, m .port, m .content)) ms) []) (each (λ (m : Parked). external t services depth clock c (m .port) (m .content)) ms w)
+      takes depth c p [] w = goes (hand-none w)
+      takes depth c p (m ∷ ms) w = ends-bind _ (external-comes depth c (m .port) (m .content) w (p .0)) (λ z a. ends-map (takes depth c p ms z) (λ r b. b) (λ y h. hand-on (hand-comes p a) h))
+
+      take-all : (depth : ℕ) (list : List Parked) {cs : List ℕ} → All (Part i) cs → (w : World)
+          → Ends Whatever (Hand w (handedTo t list cs) []) (each (λ c. each (λ (m : Parked). external t services depth clock c (m .port) (m .content)) (those (λ (m : Parked). eqb (m .component) (idAt t c)) list)) cs w)
+      take-all depth list nil w = goes (hand-none w)
+      take-all depth list (_&_ {x = c} p ps) w = ends-bind _ (takes depth c p (those (λ (m : Parked). eqb (m .component) (idAt t c)) list) w) (λ z a. ends-map (take-all depth list ps z) (λ r b. b) (λ y h. hand-on a h))
+
+      -- what a component puts out is parked behind what the list has
+      abbrev Lists : List Parked → List Happening → ℕ → World × List Out → Type 0
+      Lists list log long r = (stateAt (r .0 .states) i ≡ ofCoupled list) × (r .0 .log ≡ log) × (length (r .0 .states) ≡ long)
+
+      abbrev parksAs : ℕ → Out → List Parked
+      parksAs c m = map (λ (to : Target). record { component = to .target; port = to .port; content = m .content }) (internals t (idAt t i) (idAt t c) (m .port))
+
+      hand-lists : (c : ℕ) (m : Out) (r : World × List Out) (list : List Parked) → i < length (r .0 .states) → stateAt (r .0 .states) i ≡ ofCoupled list
+          → Ends Whatever (Lists (list ++ parksAs c m) (r .0 .log) (length (r .0 .states))) (hand t services i c m r)
+      hand-lists c m r list l e =
+          ends-bind {Q = λ w. Lists (list ++ parksAs c m) (r .0 .log) (length (r .0 .states)) (w, [])} _
+          (ends-bind _ (ends-most mostParked NoMessageRoom (asCoupled (stateAt (r .0 .states) i) ++ parksAs c m) tt)
+          (λ more k. goes (getD-set-same (r .0 .states) i (ofCoupled more) (ofCoupled []) l ∙ ap ofCoupled (k .0 ∙ ap (λ (z : State). asCoupled z ++ parksAs c m) e), refl, length-set (r .0 .states) i (ofCoupled more))))
+          (λ w k. ends-bind {Q = Whatever} _ (ends-whatever (atMost mostOut NoMessageRoom (r .1 ++ map (λ port. outAt port (m .content)) (outputs t (idAt t i) (idAt t c) (m .port))))) (λ out _. goes {a = (w, out)} k))
+
+      hands-list : (c : ℕ) (out : List Out) (r : World × List Out) (list : List Parked) → i < length (r .0 .states) → stateAt (r .0 .states) i ≡ ofCoupled list
+          → Ends Whatever (Lists (list ++ parkedBy t i c out) (r .0 .log) (length (r .0 .states))) (each (hand t services i c) out r)
+      hands-list c [] r list l e = goes (e ∙ ap ofCoupled (sym (append-nil list)), refl, refl)
+      hands-list c (m ∷ out) r list l e =
+          ends-bind _ (hand-lists c m r list l e)
+          (λ y k. ends-map (hands-list c out y (list ++ parksAs c m) (let n = k .2 in omega arith) (k .0)) (λ r b. b)
+          (λ x h. (h .0 ∙ ap ofCoupled (append-assoc list (parksAs c m) (parkedBy t i c out)), h .1 ∙ k .1, h .2 ∙ k .2)))
+
+      -- the turns of the components, after the list was emptied in w
+      record Turned (w : World) (r : World × List Out) : Type 0 where
+        list : List Parked
+        made : Hand w [] list (r .0)
+        has : stateAt (r .0 .states) i ≡ ofCoupled list
+
+      turned-on : (depth c : ℕ) → Part i c → (w : World) → i < length (w .states) → (r : World × List Out) → Turned w r → Ends Whatever (Turned w) (turn t services depth (internal t services depth clock) i c r)
+      turned-on depth c p w l r h =
+          ends-if (due t depth (r .0 .states) c)
+          (λ _. ends-bind _ (internal-goes depth c (r .0) (p .0))
+          (λ x g. let made = hand-on (h .made) (hand-goes p g) in let deeper = one-deeper i c li p in
+          ends-map (hands-list c (x .1) (x .0, r .1) (h .list) (let n = made .long in omega arith) (g .above .same i (omega arith) ∙ h .has)) (λ r b. b)
+          (λ y k. record {
+            list = h .list ++ parkedBy t i c (x .1);
+            made = record { more = made .more; is = k .1 ∙ made .is; arrives = made .arrives; parks = made .parks; long = k .2 ∙ made .long };
+            has = k .0;
+          })))
+          (λ _. goes {a = r} h)
+
+      itself-no-part : isComponent t i i ≡ false
+      itself-no-part = go (isComponent t i i) (λ u. one-deeper i i li (li, u))
+        where
+          go : (b : Bool) → (T b → depthAt t i ≡ depthAt t i + 1) → b ≡ false
+          go true f = absurd (let e = f tt in omega arith)
+          go false f = refl
+
+      record Event (w : World) (r : World × List Out) : Type 0 where
+        since : List Happening
+        behind-it : r .0 .log ≡ w .log ++ since
+        handed : comings t i since ≡ handedTo t (asCoupled (stateAt (w .states) i)) (components t (idAt t i))
+        list-after : asCoupled (stateAt (r .0 .states) i) ≡ newly t i since
+
+      its-event : (depth : ℕ) (w : World) → kindAt t i ≡ coupled → i < length (w .states) → Ends Whatever (Event w) (internal t services depth clock i w)
+      unfolding internal
+      its-event zero w is l = stops tt
+      its-event (suc depth) w is l =
+          event-as depth i w is
+          (ends-bind _ (take-all depth (asCoupled (stateAt (w .states) i)) (parts-of i) w)
+          (λ w₁ a. let long : i < length (w₁ .states) = (let n = a .long in omega arith) in
+          ends-bind {Q = Turned w₁} _
+          (ends-each {P = Part i} (turn t services depth (internal t services depth clock) i) (becomes i (ofCoupled []) w₁, []) (parts-of i) (λ c r p h. turned-on depth c p w₁ long r h)
+          (record {
+            list = [];
+            made = record { more = []; is = sym (append-nil (w₁ .log)); arrives = refl; parks = refl; long = length-set (w₁ .states) i (ofCoupled []) };
+            has = getD-set-same (w₁ .states) i (ofCoupled []) (ofCoupled []) long;
+          }))
+          (λ r h. let both = hand-on a (h .made) in let last = went clock i (r .1) ∷ [] in goes {a = (noted (went clock i (r .1)) (r .0), r .1)} (record {
+            since = both .more ++ last;
+            behind-it = joined (w .log) (both .more) last (r .0 .log) (r .0 .log ++ last) (both .is) refl;
+            handed = comings-append (both .more) last ∙ ap (λ (z : List (ℕ × ℕ × ℕ)). z ++ []) (both .arrives) ∙ append-nil _ ∙ append-nil _;
+            list-after =
+                ap asCoupled (h .has)
+                ∙ sym (newly-append (both .more) last ∙ rw (both .parks, itself-no-part) (append-nil (h .list)));
+          }))))
 
   -- ---- the Coupled i, with `parked` in its list
-  module _ (i : ℕ) (is : kindAt t i ≡ coupled) (parked : List Parked) where
-    -- its internal event, at any depth
-    event-as : {Q : World × List Out → Type 0} (depth : ℕ) (k : ℕ) (w : World) → kindAt t k ≡ coupled → Ends Whatever Q (internalAs t services coupled depth (external t services depth clock) (internal t services depth clock) clock k w)
-        → Ends Whatever Q (internal t services (suc depth) clock k w)
-    unfolding internal
-    event-as {Q} depth k w e h = subst (λ (z : Kind). Ends Whatever Q (internalAs t services z depth (external t services depth clock) (internal t services depth clock) clock k w)) (sym e) h
-
-    -- in it, each message of the list comes to the component that it is for
-    module _ (m : Parked) (j : ℕ) (component : Among j (components t (idAt t i))) (for-it : idAt t j ≡ m .component) (w : World) (listed : Among m (asCoupled (stateAt (w .states) i))) where
-      abbrev Comes : World → Type 0
-      Comes z = Told (w .log) j m (z .log)
-
-      lasts : Lasting (Told (w .log) j m)
-      lasts = since-lasts (w .log) (ComesTo clock j m)
-
-      -- what the component c takes of the list
-      abbrev takes : ℕ → ℕ → World → Outcome World
-      takes depth c = each (λ (p : Parked). external t services depth clock c (p .port) (p .content)) (those (λ (p : Parked). eqb (p .component) (idAt t c)) (asCoupled (stateAt (w .states) i)))
-
-      takes-last : (P : List Happening → Type 0) → Lasting P → (depth c : ℕ) (z : World) → P (z .log) → Ends Whatever (λ z. P (z .log)) (takes depth c z)
-      takes-last P l depth c z p = ends-each {P = Whatever} _ z (all-any (those (λ (p : Parked). eqb (p .component) (idAt t c)) (asCoupled (stateAt (w .states) i))) (λ _. tt)) (λ q z₁ _ p₁. external-lasts P l depth c (q .port) (q .content) z₁ p₁) p
-
-      taken-there : (depth : ℕ) (z : World) → Grown (w .log) (z .log) → Ends Whatever Comes (takes depth j z)
-      taken-there depth z g =
-          ends-meets {K = λ z. Grown (w .log) (z .log)} {R = Comes} {P = Whatever} _ m z
-          (among-those (λ (p : Parked). eqb (p .component) (idAt t j)) m listed (subst (λ (n : ℕ). T (eqb (m .component) n)) (sym for-it) (eqb-refl (m .component))))
-          (all-any (those (λ (p : Parked). eqb (p .component) (idAt t j)) (asCoupled (stateAt (w .states) i))) (λ _. tt))
-          (λ q z₁ _ g₁. external-lasts (Grown (w .log)) (grown-lasts (w .log)) depth j (q .port) (q .content) z₁ g₁)
-          (λ z₁ _ g₁. tells (w .log) j m depth z₁ g₁)
-          (λ q z₁ _ c₁. external-lasts (Told (w .log) j m) lasts depth j (q .port) (q .content) z₁ c₁)
-          g
-
-      unparked : (depth : ℕ) → Ends Whatever Comes (unpark t services (external t services depth clock) i (asCoupled (stateAt (w .states) i)) w)
-      unparked depth =
-          ends-meets {K = λ z. Grown (w .log) (z .log)} {R = Comes} {P = Whatever} (takes depth) j w component (all-any (components t (idAt t i)) (λ _. tt))
-          (λ c z _ g. takes-last (Grown (w .log)) (grown-lasts (w .log)) depth c z g) (λ z _ g. taken-there depth z g) (λ c z _ q. takes-last (Told (w .log) j m) lasts depth c z q) ([], sym (append-nil (w .log)))
-
-      comes : (depth : ℕ) → Ends Whatever (λ r. Comes (r .0)) (internal t services depth clock i w)
-      unfolding internal
-      comes zero = stops tt
-      comes (suc depth) =
-          event-as depth i w is
-          (ends-bind {Q = Comes} _ (unparked depth)
-          (λ w₁ q. ends-bind {Q = λ r. Comes (r .0)} _
-          (ends-each {P = Whatever} (turn t services depth (internal t services depth clock) i) (becomes i (ofCoupled []) w₁, []) (all-any (components t (idAt t i)) (λ _. tt)) (λ c r _ q. turn-lasts (Told (w .log) j m) lasts depth i c r q) q)
-          (λ r q. goes {a = (noted (went clock i (r .1)) (r .0), r .1)} (lasts (r .0 .log) (went clock i (r .1) ∷ []) q))))
-
+  module _ (ok : Fine t) (i : ℕ) (li : i < length (t .rows)) (is : kindAt t i ≡ coupled) (parked : List Parked) (full : parked ≡ [] → ⊥) where
     -- ---- either it waits for its event, its list as it was, or it has had it
     record Waits (w : World) : Type 0 where
       list : stateAt (w .states) i ≡ ofCoupled parked
@@ -259,52 +540,59 @@ module _ (t : Table) (services : List Float) (clock : Float) where
     either-arrives = record { atom = λ k place s w a h. either-put k place s w (atom-other t i k is a) h; message = λ clock k port content fate w h. either-noted (came clock k port content fate) w tt h }
 
     -- its own event
-    itself : (depth : ℕ) (w : World) → Waits w → Ends Whatever (λ r. Hands (r .0 .log)) (internal t services depth clock i w)
-    itself depth w h = ends-map (ends-known (ends-whatever (internal t services depth clock i w))) (λ r b. b) (λ r e. record {
+    in-states : (w : World) → Waits w → i < length (w .states)
+    in-states w h = in-rows (w .states) i (λ e. full (sym (ap asCoupled (h .list)) ∙ e))
+
+    itself : (depth : ℕ) (w : World) → Deep t depth i → Waits w → Ends Whatever (λ r. Hands (r .0 .log)) (internal t services depth clock i w)
+    itself depth w deep h = ends-map (ends-both (ends-known (ends-whatever (internal t services depth clock i w))) (its-event ok i li depth w is (in-states w h))) (λ r b. b) (λ r e. record {
       depth = depth;
       before = w;
       left = r .0;
       out = r .1;
-      event = e;
+      deep-enough = deep;
+      event = e .0;
       held = ap asCoupled (h .list);
       its-first = h .silent;
-      handed = λ m j listed component for-it. ends-done (comes m j component for-it w (subst (Among m) (sym (ap asCoupled (h .list))) listed) depth) e;
+      since = e .1 .since;
+      behind-it = e .1 .behind-it;
+      handed = e .1 .handed ∙ ap (λ (s : State). handedTo t (asCoupled s) (components t (idAt t i))) (h .list);
+      list-after = e .1 .list-after;
       rest = [];
       told = sym (append-nil (r .0 .log));
     })
 
     -- ---- every other row's event keeps that
     abbrev Steady : ℕ → Type 0
-    Steady depth = (k : ℕ) (w : World) → Either w → Ends Whatever (λ r. Either (r .0)) (internal t services depth clock k w)
+    Steady depth = (k : ℕ) (w : World) → Deep t depth k → Either w → Ends Whatever (λ r. Either (r .0)) (internal t services depth clock k w)
 
     unpark-either : (depth k : ℕ) (list : List Parked) (w : World) → Either w → Ends Whatever Either (unpark t services (external t services depth clock) k list w)
     unpark-either depth k list w h =
         ends-each {P = Whatever} _ w (all-any (components t (idAt t k)) (λ _. tt))
         (λ c w₁ _ h₁. ends-each {P = Whatever} _ w₁ (all-any (those (λ (p : Parked). eqb (p .component) (idAt t c)) list) (λ _. tt)) (λ p w₂ _ h₂. arriving t services Either either-arrives depth clock c (p .port) (p .content) w₂ h₂) h₁) h
 
-    turn-either : (depth k j : ℕ) → Steady depth → (k ≡ i → ⊥) → (r : World × List Out) → Either (r .0) → Ends Whatever (λ r. Either (r .0)) (turn t services depth (internal t services depth clock) k j r)
-    turn-either depth k j rec apart r h =
+    turn-either : (depth k j : ℕ) → Steady depth → Deep t depth j → (k ≡ i → ⊥) → (r : World × List Out) → Either (r .0) → Ends Whatever (λ r. Either (r .0)) (turn t services depth (internal t services depth clock) k j r)
+    turn-either depth k j rec deep apart r h =
         ends-if (due t depth (r .0 .states) j)
-        (λ _. ends-bind _ (rec j (r .0) h) (λ x h₁. hands-keep Either k j (λ w list h₂. either-put k (w .place) (ofCoupled list) w apart h₂) (x .1) (x .0, r .1) h₁))
+        (λ _. ends-bind _ (rec j (r .0) deep h) (λ x h₁. hands-keep Either k j (λ w list h₂. either-put k (w .place) (ofCoupled list) w apart h₂) (x .1) (x .0, r .1) h₁))
         (λ _. goes {a = r} h)
 
     atom-either : (k place : ℕ) (s : State) (out : List Out) (w : World) → (k ≡ i → ⊥) → Either w → Either (noted (went clock k out) (becomes k s (moved place w)))
     atom-either k place s out w apart h = either-noted (went clock k out) (becomes k s (moved place w)) apart (either-put k place s w apart h)
 
-    other-as : (kind : Kind) (depth k : ℕ) (w : World) → Steady depth → (k ≡ i → ⊥) → Either w → Ends Whatever (λ r. Either (r .0)) (internalAs t services kind depth (external t services depth clock) (internal t services depth clock) clock k w)
-    other-as (processor p) depth k w rec apart h =
+    other-as : (kind : Kind) (depth k : ℕ) (w : World) → kindAt t k ≡ kind → Deep t (suc depth) k → Steady depth → (k ≡ i → ⊥) → Either w → Ends Whatever (λ r. Either (r .0)) (internalAs t services kind depth (external t services depth clock) (internal t services depth clock) clock k w)
+    other-as (processor p) depth k w e deep rec apart h =
         ends-bind _ (ends-whatever (processorInternal services (asProcessor (stateAt (w .states) k)) (w .place)))
         (λ r _. goes {a = (noted (went clock k (map (outAt (p .output)) (r .2))) (becomes k (ofProcessor (r .0)) (moved (r .1) w)), map (outAt (p .output)) (r .2))} (atom-either k (r .1) (ofProcessor (r .0)) (map (outAt (p .output)) (r .2)) w apart h))
-    other-as (batcher b) depth k w rec apart h =
+    other-as (batcher b) depth k w e deep rec apart h =
         let r = batcherInternal b (asBatcher (stateAt (w .states) k)) in
         goes {a = (noted (went clock k (map (outAt (b .output)) (r .1))) (becomes k (ofBatcher (r .0)) w), map (outAt (b .output)) (r .1))} (atom-either k (w .place) (ofBatcher (r .0)) (map (outAt (b .output)) (r .1)) w apart h)
-    other-as (stopwatch p) depth k w rec apart h =
+    other-as (stopwatch p) depth k w e deep rec apart h =
         let r = stopwatchInternal p (asStopwatch (stateAt (w .states) k)) in
         goes {a = (noted (went clock k (map (outAt (p .output)) (r .1))) (becomes k (ofStopwatch (r .0)) w), map (outAt (p .output)) (r .1))} (atom-either k (w .place) (ofStopwatch (r .0)) (map (outAt (p .output)) (r .1)) w apart h)
-    other-as coupled depth k w rec apart h =
+    other-as coupled depth k w e deep rec apart h =
         ends-bind {Q = Either} _ (unpark-either depth k (asCoupled (stateAt (w .states) k)) w h)
         (λ w₁ h₁. ends-bind {Q = λ r. Either (r .0)} _
-        (ends-each {P = Whatever} (turn t services depth (internal t services depth clock) k) (becomes k (ofCoupled []) w₁, []) (all-any (components t (idAt t k)) (λ _. tt)) (λ j r _ h₂. turn-either depth k j rec apart r h₂)
+        (ends-each {P = Deep t depth} (turn t services depth (internal t services depth clock) k) (becomes k (ofCoupled []) w₁, []) (deep e) (λ j r d h₂. turn-either depth k j rec d apart r h₂)
         (either-put k (w₁ .place) (ofCoupled []) w₁ apart h₁))
         (λ r h₂. goes {a = (noted (went clock k (r .1)) (r .0), r .1)} (either-noted (went clock k (r .1)) (r .0) apart h₂)))
 
@@ -315,26 +603,26 @@ module _ (t : Table) (services : List Float) (clock : Float) where
         go true f g = inl (f tt)
         go false f g = inr g
 
-    itself-at : (depth k : ℕ) (w : World) → k ≡ i → Waits w → Ends Whatever (λ r. Hands (r .0 .log)) (internal t services depth clock k w)
-    itself-at depth k w e h = subst (λ (n : ℕ). Ends Whatever (λ r. Hands (r .0 .log)) (internal t services depth clock n w)) (sym e) (itself depth w h)
+    itself-at : (depth k : ℕ) (w : World) → Deep t depth k → k ≡ i → Waits w → Ends Whatever (λ r. Hands (r .0 .log)) (internal t services depth clock k w)
+    itself-at depth k w deep e h = subst (λ (n : ℕ). Ends Whatever (λ r. Hands (r .0 .log)) (internal t services depth clock n w)) (sym e) (itself depth w (subst (Deep t depth) e deep) h)
 
     steady : (depth : ℕ) → Steady depth
     unfolding internal
-    steady zero k w h = stops tt
-    steady (suc depth) k w (inr q) = ends-map (internal-lasts Hands hands-last (suc depth) k w q) (λ r b. b) (λ r q₁. inr q₁)
-    steady (suc depth) k w (inl h) = elim (same-row k) [
-      | inl e ↦ ends-map (itself-at (suc depth) k w e h) (λ r b. b) (λ r q. inr q)
-      | inr apart ↦ other-as (kindAt t k) depth k w (steady depth) apart (inl h)
+    steady zero k w deep h = stops tt
+    steady (suc depth) k w deep (inr q) = ends-map (internal-lasts Hands hands-last (suc depth) k w q) (λ r b. b) (λ r q₁. inr q₁)
+    steady (suc depth) k w deep (inl h) = elim (same-row k) [
+      | inl e ↦ ends-map (itself-at (suc depth) k w deep e h) (λ r b. b) (λ r q. inr q)
+      | inr apart ↦ other-as (kindAt t k) depth k w refl deep (steady depth) apart (inl h)
     ]
 
-    rootTurn-either : (k : ℕ) (r : World × List Message) → Either (r .0) → Ends Whatever (λ r. Either (r .0)) (rootTurn t services clock k r)
-    rootTurn-either k r h =
+    rootTurn-either : (k : ℕ) → Deep t levels k → (r : World × List Message) → Either (r .0) → Ends Whatever (λ r. Either (r .0)) (rootTurn t services clock k r)
+    rootTurn-either k deep r h =
         ends-if (due t levels (r .0 .states) k)
-        (λ _. ends-bind _ (steady levels k (r .0) h) (λ x h₁. ends-bind {Q = Whatever} _ (ends-whatever (each (send t clock k) (x .1) (r .1))) (λ sent _. goes {a = (x .0, sent)} h₁)))
+        (λ _. ends-bind _ (steady levels k (r .0) deep h) (λ x h₁. ends-bind {Q = Whatever} _ (ends-whatever (each (send t clock k) (x .1) (r .1))) (λ sent _. goes {a = (x .0, sent)} h₁)))
         (λ _. goes {a = r} h)
 
     -- ---- it has its turn: while it waits, it and each Coupled around it is due
-    module _ (ok : Fine t) (short : T (isWord (length services))) (c : T (isTime clock)) (first-in : Parked) (others : List Parked) (full : parked ≡ first-in ∷ others) where
+    module _ (short : T (isWord (length services))) (c : T (isTime clock)) (first-in : Parked) (others : List Parked) (begins : parked ≡ first-in ∷ others) where
       abbrev Fits : World × List Out → Type 0
       Fits = Gone t ok services short NotTwenty Whatever (any-closed t)
 
@@ -342,12 +630,12 @@ module _ (t : Table) (services : List Float) (clock : Float) where
       abbrev Leads : ℕ → ℕ → Type 0
       Leads depth k = (w : World) → Good t w → Either w → Hands (w .log) ⊎ (T (due t depth (w .states) k) × Ends Whatever (λ r. Hands (r .0 .log)) (internal t services depth clock k w))
 
-      leads-itself : (depth k : ℕ) → k ≡ i → Leads (suc depth) k
-      leads-itself depth k e w g (inr q) = inl q
-      leads-itself depth k e w g (inl h) =
+      leads-itself : (depth k : ℕ) → Deep t (suc depth) k → k ≡ i → Leads (suc depth) k
+      leads-itself depth k deep e w g (inr q) = inl q
+      leads-itself depth k deep e w g (inl h) =
           inr (
-            subst T (sym (due-parked t ok (w .states) (g .0) depth k first-in others (subst (λ (n : ℕ). stateAt (w .states) n ≡ ofCoupled (first-in ∷ others)) (sym e) (h .list ∙ ap ofCoupled full)))) tt,
-            itself-at (suc depth) k w e h,
+            subst T (sym (due-parked t ok (w .states) (g .0) depth k first-in others (subst (λ (n : ℕ). stateAt (w .states) n ≡ ofCoupled (first-in ∷ others)) (sym e) (h .list ∙ ap ofCoupled begins)))) tt,
+            itself-at (suc depth) k w deep e h,
           )
 
       module _ (depth k j : ℕ) (inside : j < length (t .rows)) (couples : kindAt t k ≡ coupled) (within : T (isParent (idAt t k) (rowAt t j .parent))) (deep : Deep t (suc depth) k) (leads : Leads depth j) where
@@ -371,7 +659,7 @@ module _ (t : Table) (services : List Float) (clock : Float) where
             (unpark-keeps t ok services short NotTwenty Whatever (any-closed t) depth (external t services depth clock) (external-keeps t ok services short NotTwenty Whatever (any-closed t) clock c depth) k w couples deep (g, tt)))
             (λ w₁ b. ends-bind {Q = λ r. Hands (r .0 .log)} _
             (ends-meets {K = λ r. Either (r .0) × Fits r} {R = λ r. Hands (r .0 .log)} {P = Deep t depth} (turn t services depth (internal t services depth clock) k) j (becomes k (ofCoupled []) w₁, []) component (deep couples)
-            (λ y r d b₁. ends-both (turn-either depth k y (steady depth) apart r (b₁ .0)) (turn-keeps t ok services short NotTwenty Whatever (any-closed t) depth k y (internal t services depth clock) r (internal-keeps t ok services short NotTwenty Whatever (any-closed t) clock c depth) d couples (b₁ .1)))
+            (λ y r d b₁. ends-both (turn-either depth k y (steady depth) d apart r (b₁ .0)) (turn-keeps t ok services short NotTwenty Whatever (any-closed t) depth k y (internal t services depth clock) r (internal-keeps t ok services short NotTwenty Whatever (any-closed t) clock c depth) d couples (b₁ .1)))
             (λ r _ b₁. brings r (b₁ .1 .0 .0) (b₁ .0))
             (λ y r _ q. turn-lasts Hands hands-last depth k y r q)
             (either-put k (w₁ .place) (ofCoupled []) w₁ apart (b .0), (((fitted-set k (ofCoupled []) (b .1 .0 .0) (subst (λ (z : Kind). T (stateFits z (ofCoupled []))) (sym couples) tt), b .1 .0 .1), tt), nil)))
@@ -380,7 +668,7 @@ module _ (t : Table) (services : List Float) (clock : Float) where
         leads-up : Leads (suc depth) k
         leads-up w g (inr q) = inl q
         leads-up w g (inl h) = elim (same-row k) [
-          | inl e ↦ leads-itself depth k e w g (inl h)
+          | inl e ↦ leads-itself depth k deep e w g (inl h)
           | inr apart ↦ elim (leads w g (inl h)) [
             | inl q ↦ inl q
             | inr l ↦ inr (due-component t ok (w .states) (g .0) depth k j inside couples within (l .0), event-brings w g (inl h) apart)
@@ -400,8 +688,8 @@ module _ (t : Table) (services : List Float) (clock : Float) where
             (λ n. absurd (T-not (due t levels (r .0 .states) k) n (l .0)))
       ]
 
-      turns : (r : World × List Message) → Either (r .0) → Sent t ok services short NotTwenty Whatever (any-closed t) clock c r → i < length (t .rows) → Turns r
-      turns r h sent inside = let found = by-parent t ok Way top down i inside in found .1 .1 (leads-itself (found .0) i refl)
+      turns : (r : World × List Message) → Either (r .0) → Sent t ok services short NotTwenty Whatever (any-closed t) clock c r → Turns r
+      turns r h sent = let found = by-parent t ok Way top down i li in found .1 .1 (leads-itself (found .0) i (found .1 .0) refl)
         where
           Way : ℕ → ℕ → Type 0
           Way depth k = Deep t depth k × (Leads depth k → Turns r)
@@ -412,7 +700,7 @@ module _ (t : Table) (services : List Float) (clock : Float) where
             λ leads.
                 ends-meets {K = λ r. Either (r .0) × Sent t ok services short NotTwenty Whatever (any-closed t) clock c r} {R = λ r. Hands (r .0 .log)} {P = Deep t levels} (rootTurn t services clock) k r
                 (among (λ k. isParentless (rowAt t k .parent)) 0 (length (t .rows)) (among-all (parentless t)) k (omega arith) (omega arith) p) (parentless-deep t ok)
-                (λ y r₁ d b. ends-both (rootTurn-either y r₁ (b .0)) (rootTurn-keeps t ok services short NotTwenty Whatever (any-closed t) clock c y r₁ d (b .1)))
+                (λ y r₁ d b. ends-both (rootTurn-either y d r₁ (b .0)) (rootTurn-keeps t ok services short NotTwenty Whatever (any-closed t) clock c y r₁ d (b .1)))
                 (λ r₁ _ b. root-brings k leads r₁ (b .1 .0 .0) (b .0))
                 (λ y r₁ _ q. rootTurn-lasts Hands hands-last y r₁ q)
                 (h, sent),
@@ -439,29 +727,24 @@ not-empty : (parked : List Parked) → (parked ≡ [] → ⊥) → (m : Parked) 
 not-empty [] n = absurd (n refl)
 not-empty (m ∷ ms) n = (m, ms, refl)
 
-in-rows : (states : List State) (i : ℕ) → (asCoupled (stateAt states i) ≡ [] → ⊥) → i < length states
-in-rows [] i n = absurd (n refl)
-in-rows (s ∷ states) zero n = omega arith
-in-rows (s ∷ states) (suc i) n = let l = in-rows states i n in omega arith
-
-module _ (sim : Simulation) (v : Valid sim) (services : List Float) (short : T (isWord (length services))) (i : ℕ) (holds : parkedAt sim i ≡ [] → ⊥) where
+module _ (sim : Simulation) (v : Valid sim) (services : List Float) (short : T (isWord (length services))) (i : ℕ) (holds : listOf sim i ≡ [] → ⊥) where
   abbrev t : Table
   t = sim .table
 
   ok : Fine t
   ok = fine t (v .table)
 
-  shape : (kindAt t i ≡ coupled) × (stateAt (sim .states) i ≡ ofCoupled (parkedAt sim i))
+  shape : (kindAt t i ≡ coupled) × (stateAt (sim .states) i ≡ ofCoupled (listOf sim i))
   shape = is-holding (kindAt t i) (stateAt (sim .states) i) (v .fitted .fit i) holds
 
-  full : (m : Parked) × (ms : List Parked) × (parkedAt sim i ≡ m ∷ ms)
-  full = not-empty (parkedAt sim i) holds
+  full : (m : Parked) × (ms : List Parked) × (listOf sim i ≡ m ∷ ms)
+  full = not-empty (listOf sim i) holds
 
   inside : i < length (t .rows)
   inside = let l = in-rows (sim .states) i holds in let e = v .fitted .same in omega arith
 
   -- while it is parked, no time passes
-  no-advance : (active : List Message) (states : List State) → Fitted t states → stateAt states i ≡ ofCoupled (parkedAt sim i) → Ends Whatever (λ a. a ≡ instant) (advance t active states)
+  no-advance : (active : List Message) (states : List State) → Fitted t states → stateAt states i ≡ ofCoupled (listOf sim i) → Ends Whatever (λ a. a ≡ instant) (advance t active states)
   no-advance (m ∷ active) states g e = goes refl
   no-advance [] states g e =
       ends-if (isNever (leastTimer t states)) (λ _. stops tt)
@@ -475,7 +758,7 @@ module _ (sim : Simulation) (v : Valid sim) (services : List Float) (short : T (
   no-later a e =
       ends-if (isTime (add binary64 (sim .clock) a)) (λ _. goes (ap (add binary64 (sim .clock)) e ∙ law.later-instant (sim .clock) (v .clock))) (λ _. stops tt)
 
-  step-hands : Ends Whatever (λ r. HandsOver t services (r .0 .clock) i (parkedAt sim i) (r .1) × (r .0 .clock ≡ sim .clock)) (stepOn t services sim)
+  step-hands : Ends Whatever (λ r. HandsOver t services (r .0 .clock) i (listOf sim i) (r .1) × (r .0 .clock ≡ sim .clock)) (stepOn t services sim)
   unfolding stepOn
   step-hands =
       ends-bind _
@@ -483,30 +766,30 @@ module _ (sim : Simulation) (v : Valid sim) (services : List Float) (short : T (
       (taken-keeps t ok services short NotTwenty Whatever (any-closed t) (sim .clock) (v .clock) (sim .active) (worldOf sim []) (v .active) ((v .fitted, v .place), tt)))
       (λ w₁ h. ends-bind _ (ends-both (no-advance (sim .active) (w₁ .states) (h .1 .0 .0) (h .0 .list)) (advance-ends {B = Whatever} t ok (sim .active) (w₁ .states) tt (h .1 .0 .0)))
       (λ a u. ends-bind _ (ends-both (no-later a (u .0)) (later-ends {B = Whatever} (sim .clock) a tt))
-      (λ clock e. ends-bind {Q = λ r. HandsOver t services clock i (parkedAt sim i) (r .0 .log)} _
-      (turns t services clock i (shape .0) (parkedAt sim i) ok short (e .1) (full .0) (full .1) (full .2) (allAfter a w₁, [])
+      (λ clock e. ends-bind {Q = λ r. HandsOver t services clock i (listOf sim i) (r .0 .log)} _
+      (turns t services clock ok i inside (shape .0) (listOf sim i) holds short (e .1) (full .0) (full .1) (full .2) (allAfter a w₁, [])
       (inl (record { list = after-at a (w₁ .states) i ∙ ap (after a) (h .0 .list); silent = all-append (h .0 .silent) (tt & nil) }))
-      (((fitted-after a (w₁ .states) (h .1 .0 .0) (u .1 .0) (u .1 .1), h .1 .0 .1), tt), (nil, omega arith)) inside)
+      (((fitted-after a (w₁ .states) (h .1 .0 .0) (u .1 .0) (u .1 .1), h .1 .0 .1), tt), (nil, omega arith)))
       (λ r q. goes (q, e .0)))))
     where
-      taken-waits : (active : List Message) (w : World) → Waits t services (sim .clock) i (shape .0) (parkedAt sim i) w → Ends Whatever (Waits t services (sim .clock) i (shape .0) (parkedAt sim i)) (taken t services (sim .clock) active w)
+      taken-waits : (active : List Message) (w : World) → Waits t services (sim .clock) ok i inside (shape .0) (listOf sim i) holds w → Ends Whatever (Waits t services (sim .clock) ok i inside (shape .0) (listOf sim i) holds) (taken t services (sim .clock) active w)
       taken-waits active w h =
           ends-each {P = Whatever} _ w (all-any (parentless t) (λ _. tt))
           (λ k w₁ _ h₁. ends-each {P = Whatever} _ w₁ (all-any (those (λ (m : Message). eqb (m .«target_id») (idAt t k)) active) (λ _. tt))
-          (λ m w₂ _ h₂. arriving t services _ (waits-arrives t services (sim .clock) i (shape .0) (parkedAt sim i)) levels (sim .clock) k (m .«target_port») (m .content) w₂ h₂) h₁) h
+          (λ m w₂ _ h₂. arriving t services _ (waits-arrives t services (sim .clock) ok i inside (shape .0) (listOf sim i) holds) levels (sim .clock) k (m .«target_port») (m .content) w₂ h₂) h₁) h
 
 -- ---- the theorems
 -- in the next step that is not refused, the Coupled hands over what is parked in it, and the clock stays
-pub handed-on : (services : List Float) (sim next : Simulation) (log : List Happening) (i : ℕ) → T (isWord (length services)) → T (isValid sim) → (parkedAt sim i ≡ [] → ⊥) → oneStep services sim ≡ done (next, log)
-    → HandsOver (sim .table) services (next .clock) i (parkedAt sim i) log × (next .clock ≡ sim .clock)
+pub handed-on : (services : List Float) (sim next : Simulation) (log : List Happening) (i : ℕ) → T (isWord (length services)) → T (isValid sim) → (listOf sim i ≡ [] → ⊥) → oneStep services sim ≡ done (next, log)
+    → HandsOver (sim .table) services (next .clock) i (listOf sim i) log × (next .clock ≡ sim .clock)
 handed-on services sim next log i short valid holds e = ends-done (step-hands sim (valid-of sim valid) services short i holds) e
 
 -- while something is parked anywhere, a step is not refused with 12
-pub parked-not-idle : (services : List Float) (sim : Simulation) (i : ℕ) → T (isValid sim) → (parkedAt sim i ≡ [] → ⊥) → oneStep services sim ≡ refused Idle → ⊥
+pub parked-not-idle : (services : List Float) (sim : Simulation) (i : ℕ) → T (isValid sim) → (listOf sim i ≡ [] → ⊥) → oneStep services sim ≡ refused Idle → ⊥
 parked-not-idle services sim i valid holds e = holds (idle-exactly services sim valid .0 e .2 i)
 
 -- so after any step that is not refused, whatever services the next one has
 pub next-not-idle : (services more : List Float) (sim next : Simulation) (log : List Happening) (i : ℕ) → T (isWord (length services)) → T (isValid sim) → oneStep services sim ≡ done (next, log)
-    → (parkedAt next i ≡ [] → ⊥) → oneStep more next ≡ refused Idle → ⊥
+    → (listOf next i ≡ [] → ⊥) → oneStep more next ≡ refused Idle → ⊥
 next-not-idle services more sim next log i short valid e holds =
     parked-not-idle more next i (is-valid next (ends-done (step-ends NotTwenty Whatever services sim short (any-closed (sim .table)) (valid-of sim valid) tt) e .0)) holds
