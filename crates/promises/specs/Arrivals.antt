@@ -17,11 +17,10 @@ use Rattle.rules.specs.Table.{Kind, processor, batcher, stopwatch, coupled, Row
 use Rattle.rules.specs.Simulation.{Parked, ofProcessor, ofBatcher, ofStopwatch, ofCoupled, Simulation, stateAt, asProcessor, asBatcher, asStopwatch, asCoupled}
 use Rattle.rules.specs.Models.{Fate, Kept, Passed, processorExternal, processorInternal, batcherExternal, batcherInternal, stopwatchExternal, stopwatchInternal}
 use Rattle.rules.specs.Step.{Out, outAt, Happening, came, went, waited, World, noted, becomes, moved, levels, due, External, Internal, externalAs, external, park, hand, turn, internalAs, internal, taken, advance, allAfter, later, send, rootTurn, stepOn, oneStep}
-use Rattle.rules.specs.Ends.{All, all-any, all-those, Ends, stops, goes, ends-if, ends-bind, ends-each, Whatever, ends-whatever}
+use Rattle.rules.specs.Ends.{All, all-any, all-those, Ends, stops, goes, ends-if, ends-bind, ends-each, Whatever, ends-whatever, ends-done}
 use Rattle.rules.specs.Worlds.{worldOf}
 use Rattle.promises.specs.Story.{Event, Accepted, Released, Waited, wasKept, eventOf, history, acceptedIn, accepted, sentTo}
 use Rattle.promises.specs.Machine.{history-append, accepted-append, if-not, if-so, another-row, this-row}
-use Rattle.promises.specs.Demand3.{ends-done}
 
 module _ (t : Table) (services : List Float) (row : ℕ) (alone : T (isParentless (rowAt t row .parent))) where
   -- the row has accepted xs so far

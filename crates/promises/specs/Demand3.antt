@@ -24,7 +24,7 @@ use Rattle.rules.specs.Models.{Kept, batcherExternal}
 use Rattle.rules.specs.Step.{Happening, came, World, externalAs, external}
 use Rattle.rules.specs.Calls.{post, put, Call}
 use Rattle.rules.specs.Valid.{isValid}
-use Rattle.rules.specs.Ends.{All, Ends, stops, goes, ends-if, ends-bind, ends-map, ends-refused, Whatever, ends-whatever}
+use Rattle.rules.specs.Ends.{All, Ends, stops, goes, ends-if, ends-bind, ends-map, ends-refused, Whatever, ends-whatever, ends-done}
 use Rattle.rules.specs.Depth.{Fine, fine}
 use Rattle.rules.specs.Worlds.{worldOf}
 use Rattle.rules.specs.Runs.{Valid, valid-of, step-ends, CallFits, Carried, calls-keeps, begun-valid, fresh-at, put-valid, post-valid}
@@ -63,12 +63,6 @@ began start i = isFresh (stateAt (start .states) i)
 
 pub began-so : (start : Simulation) (i : ℕ) → BeginsFresh start i → T (began start i)
 began-so start i e = subst (λ (s : State). T (isFresh s)) (sym e) tt
-
-pub ends-done : {A : Type 0} {B : Refusal → Type 0} {Q : A → Type 0} {o : Outcome A} {a : A} → Ends B Q o → o ≡ done a → Q a
-ends-done {A = A} {B = B} {Q = Q} {a = a} h e = go (subst (λ (z : Outcome A). Ends B Q z) e h)
-  where
-    go : Ends B Q (done a) → Q a
-    go (goes q) = q
 
 -- ---- what `post` and `put` leave: every model is in its default state
 pub record AllFresh (start : Simulation) : Type 0 where

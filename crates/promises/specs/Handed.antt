@@ -1,88 +1,36 @@
--- A3 of document 02: what is parked is not stranded. While a message is parked anywhere, no step is refused with 12. In the next step that is not refused, a Coupled that holds a message has its internal event, its first in that step, with its list as it was, and without time passing; in it each message that is parked for a component comes to that component. Assumes nothing.
-use Prim.Native.Nat.{ℕ, zero, suc, _+_, _≤_, _<_}
+-- A3 of document 02: what is parked is not stranded. While a message is parked anywhere, no step is refused with 12. In the next step that is not refused, a Coupled that holds a message has its internal event, with its list as it was and without time passing; in it each message that is parked for a component comes to that component, once and in 01's order. And a run that ends with 12 leaves nothing parked. Assumes nothing.
+use Prim.Native.Nat.{ℕ, zero, suc, _+_, _-_, _≤_, _<_}
 use mathlib.Core.Path.{_≡_, refl, sym, ap, _∙_, subst}
 use mathlib.Core.Logic.{_⊎_, inl, inr}
-use mathlib.Core.Bool.{Bool, true, false}
+use mathlib.Core.Bool.{Bool, true, false, not}
 use mathlib.Core.List.{List, [], _∷_, _++_, map, append-assoc, append-nil}
 use native.Mathlib.Omega.{arith}
 use lib.ListN.{length, set, length-set}
 use lib.Seq.{getD-set-same}
-use lib.Dec.{T, eqb, eqb→eq, eqb-refl, T-not}
-use lib.Ieee.{Float, binary64, add, le}
+use lib.Dec.{T, leb, eqb, eqb→eq, eqb-refl, T-not}
+use lib.Ieee.{Float, binary64, add, le, lt}
 use Rattle.times.specs.Time.{instant, isNever, isTime, isTimer}
 use Rattle.times.specs.Laws as law
-use Rattle.rules.specs.declared.Refusal.the-variants.{NoMessageRoom, Idle}
+use Rattle.rules.specs.declared.Refusal.{Refusal}
+use Rattle.rules.specs.declared.Refusal.the-variants.{NoMessageRoom, BadTime, Idle, NoOutRoom, BadState}
 use Rattle.rules.specs.declared.Message.{Message}
 use Rattle.rules.specs.Sizes.{isWord, mostParked, mostOut}
-use Rattle.rules.specs.Base.{Outcome, refused, done, if_then_else_, each, those, atMost}
+use Rattle.rules.specs.Base.{Outcome, refused, done, _>>=_, if_then_else_, each, those, atMost}
 use Rattle.rules.specs.Table.{Kind, processor, batcher, stopwatch, coupled, Table, Target, rowAt, idAt, kindAt, isParent, isParentless, parentless, components, inputs, outputs, internals}
 use Rattle.rules.specs.Simulation.{Parked, State, ofProcessor, ofBatcher, ofStopwatch, ofCoupled, Simulation, stateAt, asProcessor, asBatcher, asStopwatch, asCoupled}
 use Rattle.rules.specs.Models.{Fate, Kept, Passed, processorExternal, processorInternal, batcherExternal, batcherInternal, stopwatchExternal, stopwatchInternal}
 use Rattle.rules.specs.Step.{Out, outAt, Happening, came, went, waited, World, noted, becomes, moved, levels, due, externalAs, external, unpark, hand, turn, internalAs, internal, taken, leastTimer, advance, after, allAfter, later, send, rootTurn, stepOn, oneStep}
 use Rattle.rules.specs.Valid.{stateFits, isValid}
-use Rattle.rules.specs.Ends.{All, nil, _&_, Among, among-all, all-imp, all-those, all-any, all-append, Ends, stops, goes, ends-if, ends-bind, ends-map, ends-both, ends-done, Whatever, ends-whatever, ends-known, ends-each, ends-most, ends-meets}
+use Rattle.rules.specs.Calls.{Done, Reached, Spent, Refused, Ran, ended, thenRan, fitting, onward, steps, stepN, look, stepsUntil, stepUntil}
+use Rattle.rules.specs.Ends.{All, nil, _&_, Among, first, later as further, among-all, among-those, all-imp, all-those, all-any, all-append, Ends, stops, goes, ends-if, ends-bind, ends-map, ends-both, ends-done, Whatever, ends-whatever, ends-known, ends-each, ends-most, ends-meets}
 use Rattle.rules.specs.Depth.{Fine, fine, depthAt, all-in, component-depth, Deep, parentless-deep, by-parent}
 use Rattle.rules.specs.Least.{Fitted, ownTimer, among, due-parked, due-component, least-below, least-is-timer}
 use Rattle.rules.specs.Arriving.{Arrives, arriving, atom-other, set-other}
 use Rattle.rules.specs.Worlds.{Good, fitted-set, after-at, fitted-after, advance-ends, later-ends, Gone, external-keeps, internal-keeps, unpark-keeps, turn-keeps, Sent, taken-keeps, rootTurn-keeps, worldOf}
 use Rattle.rules.specs.Runs.{Valid, valid-of, is-valid, NotTwenty, any-closed, step-ends}
 use Rattle.rules.specs.Ghost.{behind, behindBoth, mapO, internal-ghost}
-use Rattle.rules.specs.Idle.{idle-exactly}
-
--- ---- what is said
--- what is parked in the row i
-abbrev pub listOf : Simulation → ℕ → List Parked
-listOf sim i = asCoupled (stateAt (sim .states) i)
-
-abbrev pub isComponent : Table → ℕ → ℕ → Bool
-isComponent t i k = isParent (idAt t i) (rowAt t k .parent)
-
--- what comes to the components of the row i, in order: to which row, at which port, what
-abbrev pub comings : Table → ℕ → List Happening → List (ℕ × ℕ × ℕ)
-comings t i [] = []
-comings t i (came clock k port content fate ∷ log) = if isComponent t i k then (k, port, content) ∷ comings t i log else comings t i log
-comings t i (went clock k out ∷ log) = comings t i log
-comings t i (waited advance ∷ log) = comings t i log
-
--- "parked messages go to their components in component order, then parked order"
-abbrev pub handedTo : Table → List Parked → List ℕ → List (ℕ × ℕ × ℕ)
-handedTo t parked [] = []
-handedTo t parked (c ∷ cs) = map (λ (m : Parked). (c, m .port, m .content)) (those (λ (m : Parked). eqb (m .component) (idAt t c)) parked) ++ handedTo t parked cs
-
--- what the row i parks of what its component k puts out
-abbrev pub parkedBy : Table → ℕ → ℕ → List Out → List Parked
-parkedBy t i k [] = []
-parkedBy t i k (m ∷ out) = map (λ (to : Target). record { component = to .target; port = to .port; content = m .content }) (internals t (idAt t i) (idAt t k) (m .port)) ++ parkedBy t i k out
-
--- what is newly parked in the row i, by what its components put out
-abbrev pub newly : Table → ℕ → List Happening → List Parked
-newly t i [] = []
-newly t i (came clock k port content fate ∷ log) = newly t i log
-newly t i (went clock k out ∷ log) = if isComponent t i k then parkedBy t i k out ++ newly t i log else newly t i log
-newly t i (waited advance ∷ log) = newly t i log
-
--- no internal event of the row i
-abbrev pub NotItsEvent : ℕ → Happening → Type 0
-NotItsEvent i (came clock j port content fate) = Unit {0}
-NotItsEvent i (went clock j out) = j ≡ i → ⊥
-NotItsEvent i (waited advance) = Unit {0}
-
--- a log tells of an internal event of the row i at that clock, the first that it tells of, from the world `before` to the world `left`. The list is `parked` before it. What comes to the components in the event is what was parked for them and nothing else, each message once, in 01's order; and what is in the list after it was put out by the components in it.
-pub record HandsOver (t : Table) (services : List Float) (clock : Float) (i : ℕ) (parked : List Parked) (log : List Happening) : Type 0 where
-  pub depth : ℕ
-  pub before : World
-  pub left : World
-  pub out : List Out
-  pub deep-enough : Deep t depth i
-  pub event : internal t services depth clock i before ≡ done (left, out)
-  pub held : asCoupled (stateAt (before .states) i) ≡ parked
-  pub its-first : All (NotItsEvent i) (before .log)
-  pub since : List Happening
-  pub behind-it : left .log ≡ before .log ++ since
-  pub handed : comings t i since ≡ handedTo t parked (components t (idAt t i))
-  pub list-after : asCoupled (stateAt (left .states) i) ≡ newly t i since
-  pub rest : List Happening
-  pub told : log ≡ left .log ++ rest
+use Rattle.rules.specs.Idle.{NoneParked, idle-exactly}
+use Rattle.promises.specs.HandedOver.{listOf, isComponent, comings, handedTo, parkedBy, newly, NotItsEvent, HandsOver}
 
 -- a row with something parked is one of the rows
 in-rows : (states : List State) (i : ℕ) → (asCoupled (stateAt states i) ≡ [] → ⊥) → i < length states
@@ -784,6 +732,30 @@ pub handed-on : (services : List Float) (sim next : Simulation) (log : List Happ
     → HandsOver (sim .table) services (next .clock) i (listOf sim i) log × (next .clock ≡ sim .clock)
 handed-on services sim next log i short valid holds e = ends-done (step-hands sim (valid-of sim valid) services short i holds) e
 
+-- a message that is parked for a component is among what comes to it then
+pub comes-to-it : (t : Table) (services : List Float) (clock : Float) (i : ℕ) (parked : List Parked) (log : List Happening) (h : HandsOver t services clock i parked log) (m : Parked) (j : ℕ)
+    → Among m parked → Among j (components t (idAt t i)) → idAt t j ≡ m .component → Among {A = ℕ × ℕ × ℕ} (j, m .port, m .content) (comings t i (h .since))
+comes-to-it t services clock i parked log h m j listed component for-it = subst (Among {A = ℕ × ℕ × ℕ} (j, m .port, m .content)) (sym (h .handed)) (go component)
+  where
+    before : {A : Type 0} {x : A} {xs : List A} (ys : List A) → Among x xs → Among x (xs ++ ys)
+    before ys first = first
+    before ys (further a) = further (before ys a)
+
+    behind-them : {A : Type 0} {x : A} (xs : List A) {ys : List A} → Among x ys → Among x (xs ++ ys)
+    behind-them [] a = a
+    behind-them (y ∷ xs) a = further (behind-them xs a)
+
+    mapped : {xs : List Parked} → Among m xs → Among {A = ℕ × ℕ × ℕ} (j, m .port, m .content) (map (λ (p : Parked). (j, p .port, p .content)) xs)
+    mapped first = first
+    mapped (further a) = further (mapped a)
+
+    its-own : Among m (those (λ (p : Parked). eqb (p .component) (idAt t j)) parked)
+    its-own = among-those (λ (p : Parked). eqb (p .component) (idAt t j)) m listed (subst (λ (n : ℕ). T (eqb (m .component) n)) (sym for-it) (eqb-refl (m .component)))
+
+    go : {cs : List ℕ} → Among j cs → Among {A = ℕ × ℕ × ℕ} (j, m .port, m .content) (handedTo t parked cs)
+    go (first {xs = cs}) = before (handedTo t parked cs) (mapped its-own)
+    go (further {y = c} {xs = cs} a) = behind-them (map (λ (p : Parked). (c, p .port, p .content)) (those (λ (p : Parked). eqb (p .component) (idAt t c)) parked)) (go a)
+
 -- while something is parked anywhere, a step is not refused with 12
 pub parked-not-idle : (services : List Float) (sim : Simulation) (i : ℕ) → T (isValid sim) → (listOf sim i ≡ [] → ⊥) → oneStep services sim ≡ refused Idle → ⊥
 parked-not-idle services sim i valid holds e = holds (idle-exactly services sim valid .0 e .2 i)
@@ -793,3 +765,83 @@ pub next-not-idle : (services more : List Float) (sim next : Simulation) (log : 
     → (listOf next i ≡ [] → ⊥) → oneStep more next ≡ refused Idle → ⊥
 next-not-idle services more sim next log i short valid e holds =
     parked-not-idle more next i (is-valid next (ends-done (step-ends NotTwenty Whatever services sim short (any-closed (sim .table)) (valid-of sim valid) tt) e .0)) holds
+
+-- ---- so a run that ends with 12 leaves nothing parked
+same-refusal : (r q : Refusal) → Refused r ≡ Refused q → r ≡ q
+same-refusal r q e = cc
+
+full-not-idle : Refused NoOutRoom ≡ Refused Idle → ⊥
+full-not-idle e = let n : _≡_ {A = ℕ} 0 1 = cc in omega arith
+
+done-not-idle : Done ≡ Refused Idle → ⊥
+done-not-idle e = let n : _≡_ {A = ℕ} 0 1 = cc in omega arith
+
+reached-not-idle : Reached ≡ Refused Idle → ⊥
+reached-not-idle e = let n : _≡_ {A = ℕ} 0 1 = cc in omega arith
+
+spent-not-idle : Spent ≡ Refused Idle → ⊥
+spent-not-idle e = let n : _≡_ {A = ℕ} 0 1 = cc in omega arith
+
+bad-not-idle : Refused BadState ≡ Refused Idle → ⊥
+bad-not-idle e = let n : _≡_ {A = ℕ} 0 1 = cc in omega arith
+
+late-not-idle : Refused BadTime ≡ Refused Idle → ⊥
+late-not-idle e = let n : _≡_ {A = ℕ} 0 1 = cc in omega arith
+
+module _ (services : List Float) (short : T (isWord (length services))) where
+  abbrev Empties : Ran → Type 0
+  Empties r = r .end ≡ Refused Idle → NoneParked (r .sim .states)
+
+  -- a step and then the rest, which is asked about only where the step is done
+  after-one : (room : ℕ) (sim : Simulation) → Valid sim → (rest : Simulation → Ran) → ((next : Simulation) → Valid next → Empties (rest next))
+      → (o : Outcome (Simulation × List Happening)) → oneStep services sim ≡ o → Empties (onward sim (o >>= fitting room) rest)
+  after-one room sim v rest rec (refused r) e q = idle-exactly services sim (is-valid sim v) .0 (e ∙ ap refused (same-refusal r Idle q)) .2
+  after-one room sim v rest rec (done (next, log)) e q = go (leb (length (next .active)) room) q
+    where
+      left : Valid next
+      left = ends-done (step-ends NotTwenty Whatever services sim short (any-closed (sim .table)) v tt) e .0
+
+      go : (b : Bool) → Empties (onward sim (if b then done (next, log) else refused NoOutRoom) rest)
+      go true q = rec next left q
+      go false q = absurd (full-not-idle q)
+
+  steps-empty : (n room : ℕ) (sim : Simulation) → Valid sim → Empties (steps services room n sim)
+  unfolding steps
+  steps-empty zero room sim v q = absurd (done-not-idle q)
+  steps-empty (suc n) room sim v q = after-one room sim v (λ next. steps services (room - length (next .active)) n next) (λ next w. steps-empty n (room - length (next .active)) next w) (oneStep services sim) refl q
+
+  until-empty : (until : Float) (n room : ℕ) (sim : Simulation) → Valid sim → Empties (stepsUntil services until room n sim)
+  unfolding stepsUntil
+  until-empty until zero room sim v q = absurd (spent-not-idle q)
+  until-empty until (suc n) room sim v q = go (oneStep services sim) refl (λ next w. until-empty until n (room - length (next .active)) next w) q
+    where
+      rest : Simulation → Ran
+      rest next = stepsUntil services until (room - length (next .active)) n next
+
+      one : (o : Outcome (Simulation × List Happening)) → oneStep services sim ≡ o → ((next : Simulation) → Valid next → Empties (rest next)) → Empties (onward sim (o >>= fitting room) rest)
+      one o e rec = after-one room sim v rest rec o e
+
+      go : (o : Outcome (Simulation × List Happening)) → oneStep services sim ≡ o → ((next : Simulation) → Valid next → Empties (rest next)) → Empties (look until room sim o rest)
+      go (refused r) e rec = one (refused r) e rec
+      go (done (next, log)) e rec = looked (lt (next .clock) until)
+        where
+          looked : (b : Bool) → Empties (if b then onward sim (fitting room (next, log)) rest else thenRan [] log (ended Reached next))
+          looked true q = one (done (next, log)) e rec q
+          looked false q = absurd (reached-not-idle q)
+
+  pub stepN-empties : (room count : ℕ) (sim : Simulation) → stepN services room count sim .end ≡ Refused Idle → NoneParked (stepN services room count sim .sim .states)
+  unfolding stepN
+  stepN-empties room count sim = go (isValid sim) (valid-of sim)
+    where
+      go : (b : Bool) → (T b → Valid sim) → Empties (if b then steps services room count sim else ended (Refused BadState) sim)
+      go true v q = steps-empty count room sim (v tt) q
+      go false v q = absurd (bad-not-idle q)
+
+  pub stepUntil-empties : (until : Float) (room allowance : ℕ) (sim : Simulation) → stepUntil services until room allowance sim .end ≡ Refused Idle → NoneParked (stepUntil services until room allowance sim .sim .states)
+  unfolding stepUntil
+  stepUntil-empties until room allowance sim = go (isValid sim) (valid-of sim) (not (isTime until))
+    where
+      go : (b : Bool) → (T b → Valid sim) → (late : Bool) → Empties (if not b then ended (Refused BadState) sim else if late then ended (Refused BadTime) sim else stepsUntil services until room allowance sim)
+      go true v false q = until-empty until allowance room sim (v tt) q
+      go true v true q = absurd (late-not-idle q)
+      go false v late q = absurd (bad-not-idle q)
