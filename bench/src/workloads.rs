@@ -49,7 +49,8 @@ pub fn ring(size: u16, jobs: u16) -> Workload {
     }
 }
 
-/// A batcher and a processor inside three Coupleds. What leaves the outermost comes back to it.
+/// A processor and a batcher inside three Coupleds. What leaves the outermost comes back to it. The processor feeds the batcher: what
+/// it parks is handed over in the next step by the Rust too, since a processor that has just put out a job is due again.
 fn nested() -> Workload {
     let lines = [
         "coupled 1 -",
@@ -59,9 +60,9 @@ fn nested() -> Workload {
         "processor 5 3 1 2 -",
         "coupling 1 input - 1 2 1",
         "coupling 2 input - 1 3 1",
-        "coupling 3 input - 1 4 1",
-        "coupling 3 internal 4 2 5 1",
-        "coupling 3 output 5 2 - 2",
+        "coupling 3 input - 1 5 1",
+        "coupling 3 internal 5 2 4 1",
+        "coupling 3 output 4 2 - 2",
         "coupling 2 output 3 2 - 2",
         "coupling 1 output 2 2 - 2",
         "connector 1 2 1 1",

@@ -1,5 +1,6 @@
 /* The C calls, as a C program makes them: the bench's run, every refusal, buffers of every awkward length. */
 #include "bench_tables.h"
+#include "layout.h"
 
 /* ---- the bench's own run, step by step */
 static void test_bench_listing(void) {
@@ -226,7 +227,9 @@ static void test_status(void) {
     CHECK_NUMBER(JT_OK, jt_get_status(b.state.words, b.state.len, 20, report));
     CHECK(report[0] == JT_STATUS_PARKED && report[1] == 1);
     CHECK_NUMBER(JT_MODEL_NOT_FOUND, jt_get_status(b.state.words, b.state.len, 21, report));
-    CHECK_NUMBER(JT_IDLE, step(&b, services, 3));
+    CHECK_NUMBER(JT_OK, step(&b, services, 3));
+    CHECK_NUMBER(JT_OK, jt_get_status(b.state.words, b.state.len, 20, report));
+    CHECK(report[0] == JT_STATUS_PARKED && report[1] == 0);
     guarded_free(b.state);
 
     bench_run(&b);
@@ -476,6 +479,79 @@ static void test_said_of_refusals(void) {
     guarded_free(b.state);
 }
 
+/* ---- parked messages: four Coupleds 1 to 4, each in the one before, and a processor 5 in the last */
+enum { DEEPEST = 4 };
+
+static void nested_bench(struct bench *b) {
+    static const uint64_t inner[10] = {DEEPEST + 1, PROCESSOR, PARENT_GIVEN, DEEPEST, 1, 0, 0, 2, 0, 0};
+    memset(b, 0, sizeof *b);
+    for (uint64_t id = 1; id <= DEEPEST; id++) {
+        const uint64_t in[6] = {id, 1, 0, 1, id + 1, 1};
+        coupled(b, id, id == 1 ? 0 : PARENT_GIVEN, id - 1);
+        coupling(b, in);
+    }
+    model(b, inner);
+    post(b);
+}
+
+/* So many messages are parked in a Coupled's words, all for the same id, at port 1. */
+static void park(struct bench *b, size_t row, uint64_t id, uint64_t count) {
+    uint64_t *head = b->state.words + head_at(b->state.words, row);
+    uint64_t *own = b->state.words + tail_at(b->state.words) + head[3];
+    head[2] = count;
+    for (uint64_t i = 0; i < count; i++)
+        own[i] = id << 48 | (uint64_t)1 << 32 | (i + 1);
+}
+
+/* At each depth a parked message is handed over in the next step, with no time passing; then the processor has it. */
+static void test_parked(void) {
+    static const uint64_t counts[] = {1, 2, 63, 64};
+    struct bench b;
+    double clock;
+    for (size_t row = 0; row < DEEPEST; row++)
+        for (size_t i = 0; i < sizeof counts / sizeof *counts; i++) {
+            nested_bench(&b);
+            const uint64_t *processor = b.state.words + head_at(b.state.words, DEEPEST);
+            park(&b, row, row + 2, counts[i]);
+            CHECK_NUMBER(JT_OK, step(&b, services, 3));
+            CHECK_NUMBER(0, b.state.words[head_at(b.state.words, row) + 2]);
+            CHECK(processor[0] == 1 && processor[1] == bits_of(services[0]) && processor[2] == counts[i]);
+            CHECK_NUMBER(JT_OK, jt_get_global_time(b.state.words, b.state.len, &clock));
+            CHECK(clock == 0);
+            guarded_free(b.state);
+        }
+    nested_bench(&b);
+    park(&b, 0, 2, 65);
+    CHECK_NUMBER(JT_BAD_STATE, step(&b, services, 3));
+    guarded_free(b.state);
+}
+
+/* Parked for nobody: due once, lost, and then there is nothing left. What the component refuses, it refuses in every step. */
+static void test_parked_in_vain(void) {
+    static const uint64_t ids[] = {0, 1, 3, 9, 65535};
+    struct bench b;
+    for (size_t row = 0; row < DEEPEST; row++)
+        for (size_t i = 0; i < sizeof ids / sizeof *ids; i++) {
+            if (ids[i] == row + 2)
+                continue;
+            nested_bench(&b);
+            park(&b, row, ids[i], 64);
+            CHECK_NUMBER(JT_OK, step(&b, services, 3));
+            CHECK_NUMBER(0, b.state.words[head_at(b.state.words, row) + 2]);
+            CHECK_NUMBER(JT_IDLE, step(&b, services, 3));
+            guarded_free(b.state);
+        }
+    nested_bench(&b);
+    park(&b, DEEPEST - 1, DEEPEST + 1, 1);
+    uint64_t *before = copy_of(b.state.words, b.state.len);
+    CHECK_NUMBER(JT_NO_SERVICE_TIME, step(&b, services, 0));
+    CHECK_NUMBER(JT_NO_SERVICE_TIME, step(&b, services, 0));
+    CHECK(same(before, b.state.words, b.state.len));
+    CHECK_NUMBER(JT_OK, step(&b, services, 1));
+    free(before);
+    guarded_free(b.state);
+}
+
 int main(void) {
     test_bench_listing();
     test_step_until();
@@ -485,6 +561,8 @@ int main(void) {
     test_message_refusals();
     test_time_refusals();
     test_status();
+    test_parked();
+    test_parked_in_vain();
     test_reset_and_put();
     test_cut_short();
     test_bad_words();

@@ -228,6 +228,14 @@ static void check_report(const struct given *g, uint32_t number) {
         CHECK((report[2] == JT_END_SPENT && report[0] == g->steps) || (report[2] == JT_END_REACHED && report[0] > 0));
 }
 
+/* A run that ends because nothing is left has nothing parked. */
+static void check_idle(void) {
+    const uint64_t *state = lent_state.words;
+    CHECK_NUMBER(0, active_in(state));
+    for (size_t i = 0; i < state[0]; i++)
+        CHECK(kind_of(state, i) != COUPLED || state[head_at(state, i) + 2] == 0);
+}
+
 static void check_run(const struct given *g, uint32_t number) {
     check_report(g, number);
     if (failures > 0)
@@ -239,6 +247,8 @@ static void check_run(const struct given *g, uint32_t number) {
         lent_check_same(&lent_state, g->state);
     else
         check_stepped(g, written, lent_answer.words[2] == JT_END_REACHED);
+    if (number == JT_IDLE && failures == 0)
+        check_idle();
 }
 
 /* ---- all of it */
