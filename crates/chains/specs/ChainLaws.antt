@@ -22,7 +22,7 @@ use Rattle.rules.specs.Step.{Happening}
 use Rattle.rules.specs.Valid.{isValid}
 use Rattle.rules.specs.Calls as Calls
 use Rattle.rules.specs.Calls.{End, Done, Reached, Spent, Refused, Ran, post, put, Call, InjectInput, Step, StepN, StepUntil, Reset, ResetMessages, ResetGlobalTime, changed, called, calls}
-use Rattle.rules.specs.Ends.{no-some, All, _&_, Ends, stops, goes, ends-if, ends-bind, ends-map}
+use Rattle.rules.specs.Ends.{no-some, All, _&_, Ends, stops, goes, ends-if, ends-bind, ends-map, Whatever, ends-done}
 use Rattle.rules.specs.Decides.{intake-exactly}
 use Rattle.rules.specs.Runs.{Valid, valid-of, is-valid, step-ends, EndsWell, CallFits, Carried, called-keeps, NotTwenty, any-closed, called-valid}
 use Rattle.lookup.specs.Inside.{countIn, tailAt, modelsIn, connectorsIn, couplingsIn, tableIn}
@@ -39,9 +39,8 @@ use Rattle.posting.specs.WholeLaws.{room-for}
 use Rattle.simulation.specs.CallLaws as call
 use Rattle.host.specs.Numbers.{numberOf, endNumber}
 use Rattle.promises.specs.Story.{stateThen, BeginsFresh, CapacityNone, leftBy}
-use Rattle.promises.specs.Demand3.{AllFresh, ends-done, fresh-begins, capacity-alone, post-fresh, put-fresh, demanded, beyond}
+use Rattle.promises.specs.Demand3.{AllFresh, fresh-begins, capacity-alone, post-fresh, put-fresh, demanded, beyond}
 use Rattle.promises.specs.Six.{six-elsewhere}
-use Rattle.promises.specs.Machine.{Any}
 use Rattle.chains.specs.Chain.{after, returned, told, chain, chainTold, afterPost, returnedByPost, afterPut, returnedByPut, BufferHolds, needed, ChainDemand, ChainOfAll}
 
 -- ---- a call keeps the table: an instance of `Runs.Carried`
@@ -299,21 +298,21 @@ returned-not-20 c state stored f e =
     twenty-not (called c (simOf state) .end) (called-valid c (simOf state) f (valid state stored) .end) (sym (returned-is state stored c) ∙ e)
 
 -- ---- what post and put answer: the lent table passes intake
-taken-passed : (p : Posted) → Ends Any (λ t. intake p ≡ passed t) (takenIn (intake p))
+taken-passed : (p : Posted) → Ends Whatever (λ t. intake p ≡ passed t) (takenIn (intake p))
 taken-passed p = go (intake p) refl
   where
-    go : (v : Verdict) → intake p ≡ v → Ends Any (λ t. intake p ≡ passed t) (takenIn v)
+    go : (v : Verdict) → intake p ≡ v → Ends Whatever (λ t. intake p ≡ passed t) (takenIn v)
     go tooLarge e = stops tt
     go (badRow row) e = stops tt
     go (badConnector row) e = stops tt
     go (badCoupling row) e = stops tt
     go (passed t) e = goes e
 
-post-ends : (p : Posted) → Ends Any (λ (sim : Simulation). (intake p ≡ passed (sim .table)) × (sim ≡ begun (sim .table))) (post p)
+post-ends : (p : Posted) → Ends Whatever (λ (sim : Simulation). (intake p ≡ passed (sim .table)) × (sim ≡ begun (sim .table))) (post p)
 unfolding post
 post-ends p = ends-bind _ (taken-passed p) (λ t e. goes (e, refl))
 
-put-ends : (p : Posted) (sim : Simulation) → Ends Any (λ (next : Simulation). intake p ≡ passed (next .table)) (put p sim)
+put-ends : (p : Posted) (sim : Simulation) → Ends Whatever (λ (next : Simulation). intake p ≡ passed (next .table)) (put p sim)
 unfolding put
 put-ends p sim = ends-if (isValid sim) (λ _. ends-bind _ (taken-passed p) (λ t e. goes e)) (λ _. stops tt)
 

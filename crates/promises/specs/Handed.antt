@@ -3,11 +3,13 @@ use Prim.Native.Nat.{ℕ, zero, suc, _+_, _-_, _≤_, _<_}
 use mathlib.Core.Path.{_≡_, refl, sym, ap, _∙_, subst}
 use mathlib.Core.Logic.{_⊎_, inl, inr}
 use mathlib.Core.Bool.{Bool, true, false, not}
+use mathlib.Core.Option.{some}
 use mathlib.Core.List.{List, [], _∷_, _++_, map, append-assoc, append-nil}
 use native.Mathlib.Omega.{arith}
+use native.Mathlib.Nat.{eq-or-lt-of-le}
 use lib.ListN.{length, set, length-set}
 use lib.Seq.{getD-set-same}
-use lib.Dec.{T, leb, eqb, eqb→eq, eqb-refl, T-not}
+use lib.Dec.{T, leb, eqb, eqb-refl, T-not}
 use lib.Ieee.{Float, binary64, add, le, lt}
 use Rattle.times.specs.Time.{instant, isNever, isTime, isTimer}
 use Rattle.times.specs.Laws as law
@@ -15,20 +17,20 @@ use Rattle.rules.specs.declared.Refusal.{Refusal}
 use Rattle.rules.specs.declared.Refusal.the-variants.{NoMessageRoom, BadTime, Idle, NoOutRoom, BadState}
 use Rattle.rules.specs.declared.Message.{Message}
 use Rattle.rules.specs.Sizes.{isWord, mostParked, mostOut}
-use Rattle.rules.specs.Base.{Outcome, refused, done, _>>=_, if_then_else_, each, those, atMost}
+use Rattle.rules.specs.Base.{Outcome, refused, done, _>>=_, if_then_else_, each, those, from, atMost}
 use Rattle.rules.specs.Table.{Kind, processor, batcher, stopwatch, coupled, Table, Target, rowAt, idAt, kindAt, isParent, isParentless, parentless, components, inputs, outputs, internals}
 use Rattle.rules.specs.Simulation.{Parked, State, ofProcessor, ofBatcher, ofStopwatch, ofCoupled, Simulation, stateAt, asProcessor, asBatcher, asStopwatch, asCoupled}
 use Rattle.rules.specs.Models.{Fate, Kept, Passed, processorExternal, processorInternal, batcherExternal, batcherInternal, stopwatchExternal, stopwatchInternal}
 use Rattle.rules.specs.Step.{Out, outAt, Happening, came, went, waited, World, noted, becomes, moved, levels, due, externalAs, external, unpark, hand, turn, internalAs, internal, taken, leastTimer, advance, after, allAfter, later, send, rootTurn, stepOn, oneStep}
 use Rattle.rules.specs.Valid.{stateFits, isValid}
 use Rattle.rules.specs.Calls.{Done, Reached, Spent, Refused, Ran, ended, thenRan, fitting, onward, steps, stepN, look, stepsUntil, stepUntil}
-use Rattle.rules.specs.Ends.{All, nil, _&_, Among, first, later as further, among-all, among-those, all-imp, all-those, all-any, all-append, Ends, stops, goes, ends-if, ends-bind, ends-map, ends-both, ends-done, Whatever, ends-whatever, ends-known, ends-each, ends-most, ends-meets}
+use Rattle.rules.specs.Ends.{All, nil, _&_, Among, first, later as further, among-those, all-imp, all-those, all-any, all-append, Ends, stops, goes, ends-if, ends-bind, ends-map, ends-both, ends-done, Whatever, ends-whatever, ends-known, ends-each, ends-most}
+use Rattle.rules.specs.Decides.{tells, parent-decides, parentless-decides}
 use Rattle.rules.specs.Depth.{Fine, fine, depthAt, all-in, component-depth, Deep, parentless-deep, by-parent}
 use Rattle.rules.specs.Least.{Fitted, ownTimer, among, due-parked, due-component, least-below, least-is-timer}
 use Rattle.rules.specs.Arriving.{Arrives, arriving, atom-other, set-other}
 use Rattle.rules.specs.Worlds.{Good, fitted-set, after-at, fitted-after, advance-ends, later-ends, Gone, external-keeps, internal-keeps, unpark-keeps, turn-keeps, Sent, taken-keeps, rootTurn-keeps, worldOf}
 use Rattle.rules.specs.Runs.{Valid, valid-of, is-valid, NotTwenty, any-closed, step-ends}
-use Rattle.rules.specs.Ghost.{behind, behindBoth, mapO, internal-ghost}
 use Rattle.rules.specs.Idle.{NoneParked, idle-exactly}
 use Rattle.promises.specs.HandedOver.{listOf, isComponent, comings, handedTo, parkedBy, newly, NotItsEvent, HandsOver}
 
@@ -38,48 +40,47 @@ in-rows [] i n = absurd (n refl)
 in-rows (s ∷ states) zero n = omega arith
 in-rows (s ∷ states) (suc i) n = let l = in-rows states i n in omega arith
 
--- ---- what stays true when more is logged
-abbrev Lasting : (List Happening → Type 0) → Type 0
-Lasting P = (log more : List Happening) → P log → P (log ++ more)
+-- x is in a list just once
+data Once (x : ℕ) : List ℕ → Type 0 where
+  now : {xs : List ℕ} → All (λ y. y ≡ x → ⊥) xs → Once x (x ∷ xs)
+  later-on : {y : ℕ} {xs : List ℕ} → (y ≡ x → ⊥) → Once x xs → Once x (y ∷ xs)
 
-abbrev Grown : List Happening → List Happening → Type 0
-Grown L log = (more : List Happening) × (log ≡ L ++ more)
+none-before : (test : ℕ → Bool) (x j n : ℕ) → x < j → All (λ y. y ≡ x → ⊥) (those test (from j n))
+none-before test x j n l = all-those test (above j n l) (λ y p _. p)
+  where
+    above : (j n : ℕ) → x < j → All (λ y. y ≡ x → ⊥) (from j n)
+    above j zero l = nil
+    above j (suc n) l = (let apart : j ≡ x → ⊥ = λ e. omega arith in apart) & above (suc j) n (omega arith)
 
-hands-lasts : (t : Table) (services : List Float) (clock : Float) (i : ℕ) (parked : List Parked) → Lasting (HandsOver t services clock i parked)
-hands-lasts t services clock i parked log more h = record {
-  depth = h .depth;
-  before = h .before;
-  left = h .left;
-  out = h .out;
-  event = h .event;
-  held = h .held;
-  deep-enough = h .deep-enough;
-  its-first = h .its-first;
-  since = h .since;
-  behind-it = h .behind-it;
-  handed = h .handed;
-  list-after = h .list-after;
-  rest = h .rest ++ more;
-  told = ap (λ (z : List Happening). z ++ more) (h .told) ∙ append-assoc (h .left .log) (h .rest) more;
-}
+once-those : (test : ℕ → Bool) (x j n : ℕ) → j ≤ x → x < j + n → T (test x) → Once x (those test (from j n))
+once-those test x j zero l m t = absurd (omega arith)
+once-those test x j (suc n) l m t = go (eq-or-lt-of-le l) (λ b. once-those test x (suc j) n b (omega arith) t)
+  where
+    here : (b : Bool) → T b → Once x (if b then x ∷ those test (from (suc x) n) else those test (from (suc x) n))
+    here true u = now (none-before test x (suc x) n (omega arith))
+    here false u = absurd u
 
-module _ (t : Table) (services : List Float) (clock : Float) where
-  abbrev bare : World → World
-  bare w = record { states = w .states; place = w .place; log = [] }
+    there : (b : Bool) → j < x → Once x (those test (from (suc j) n)) → Once x (if b then j ∷ those test (from (suc j) n) else those test (from (suc j) n))
+    there true b o = later-on (let apart : j ≡ x → ⊥ = λ e. omega arith in apart) o
+    there false b o = o
 
-  internal-grows : (depth k : ℕ) (w : World) → Ends Whatever (λ r. Grown (w .log) (r .0 .log)) (internal t services depth clock k w)
-  internal-grows depth k w = subst (λ (o : Outcome (World × List Out)). Ends Whatever (λ r. Grown (w .log) (r .0 .log)) o) (sym same) (mapped (internal t services depth clock k (bare w)))
-    where
-      whole : behind (w .log) (bare w) ≡ w
-      whole = λ x. record { states = w .states; place = w .place; log = append-nil (w .log) x }
+    go : (j ≡ x) ⊎ (suc j ≤ x) → (suc j ≤ x → Once x (those test (from (suc j) n))) → Once x (if test j then j ∷ those test (from (suc j) n) else those test (from (suc j) n))
+    go (inl e) rec = subst (λ (k : ℕ). Once x (if test k then k ∷ those test (from (suc k) n) else those test (from (suc k) n))) (sym e) (here (test x) t)
+    go (inr b) rec = there (test j) b (rec b)
 
-      same : internal t services depth clock k w ≡ mapO (behindBoth (w .log)) (internal t services depth clock k (bare w))
-      same = ap (internal t services depth clock k) (sym whole) ∙ internal-ghost t services (w .log) depth clock k (bare w)
+all-both : {P Q : ℕ → Type 0} {xs : List ℕ} → All P xs → All Q xs → All (λ x. P x × Q x) xs
+all-both nil nil = nil
+all-both (p & ps) (q & qs) = (p, q) & all-both ps qs
 
-      mapped : (o : Outcome (World × List Out)) → Ends Whatever (λ r. Grown (w .log) (r .0 .log)) (mapO (behindBoth (w .log)) o)
-      mapped (refused r) = stops tt
-      mapped (done r) = goes (r .0 .log, refl)
+-- a sweep that comes by x once: K before, R from there on
+ends-once : {S : Type 0} {K R : S → Type 0} {P : ℕ → Type 0} (visit : ℕ → S → Outcome S) (x : ℕ) {xs : List ℕ} (s : S) → Once x xs → All P xs
+    → ((y : ℕ) (s : S) → (y ≡ x → ⊥) → P y → K s → Ends Whatever K (visit y s)) → ((s : S) → P x → K s → Ends Whatever R (visit x s)) → ((y : ℕ) (s : S) → (y ≡ x → ⊥) → P y → R s → Ends Whatever R (visit y s)) → K s
+    → Ends Whatever R (each visit xs s)
+ends-once {P = P} visit x s (now {xs = xs} others) (p & ps) keeps makes stays k =
+    ends-bind (each visit xs) (makes s p k) (λ s₁ r. ends-each {P = λ y. (y ≡ x → ⊥) × P y} visit s₁ (all-both others ps) (λ y s₂ q r₁. stays y s₂ (q .0) (q .1) r₁) r)
+ends-once visit x s (later-on {y = y} {xs = xs} n o) (p & ps) keeps makes stays k = ends-bind (each visit xs) (keeps y s n p k) (λ s₁ k₁. ends-once visit x s₁ o ps keeps makes stays k₁)
 
+module _ (t : Table) (services : List Float) (clock : Float) (ok : Fine t) where
   -- a Coupled's event puts its list, and hands on what its components put out
   hand-keeps : (X : World → Type 0) (k j : ℕ) → ((w : World) (parked : List Parked) → X w → X (becomes k (ofCoupled parked) w)) → (m : Out) (r : World × List Out) → X (r .0) → Ends Whatever (λ r. X (r .0)) (hand t services k j m r)
   hand-keeps X k j put m r x =
@@ -91,573 +92,582 @@ module _ (t : Table) (services : List Float) (clock : Float) where
   hands-keep : (X : World → Type 0) (k j : ℕ) → ((w : World) (parked : List Parked) → X w → X (becomes k (ofCoupled parked) w)) → (ms : List Out) (r : World × List Out) → X (r .0) → Ends Whatever (λ r. X (r .0)) (each (hand t services k j) ms r)
   hands-keep X k j put ms r x = ends-each {P = Whatever} (hand t services k j) r (all-any ms (λ _. tt)) (λ m r₁ _ x₁. hand-keeps X k j put m r₁ x₁) x
 
-  module _ (P : List Happening → Type 0) (lasts : Lasting P) where
-    abbrev In : World → Type 0
-    In w = P (w .log)
-
-    internal-lasts : (depth k : ℕ) (w : World) → In w → Ends Whatever (λ r. In (r .0)) (internal t services depth clock k w)
-    internal-lasts depth k w p = ends-map (internal-grows depth k w) (λ r b. b) (λ r g. subst P (sym (g .1)) (lasts (w .log) (g .0) p))
-
-    turn-lasts : (depth k j : ℕ) (r : World × List Out) → In (r .0) → Ends Whatever (λ r. In (r .0)) (turn t services depth (internal t services depth clock) k j r)
-    turn-lasts depth k j r p =
-        ends-if (due t depth (r .0 .states) j)
-        (λ _. ends-bind _ (internal-lasts depth j (r .0) p) (λ x q. hands-keep In k j (λ w parked q. q) (x .1) (x .0, r .1) q))
-        (λ _. goes {a = r} p)
-
-    rootTurn-lasts : (k : ℕ) (r : World × List Message) → In (r .0) → Ends Whatever (λ r. In (r .0)) (rootTurn t services clock k r)
-    rootTurn-lasts k r p =
-        ends-if (due t levels (r .0 .states) k)
-        (λ _. ends-bind _ (internal-lasts levels k (r .0) p) (λ x q. ends-bind {Q = Whatever} _ (ends-whatever (each (send t clock k) (x .1) (r .1))) (λ sent _. goes {a = (x .0, sent)} q)))
-        (λ _. goes {a = r} p)
-
   -- its internal event, at any depth
   event-as : {Q : World × List Out → Type 0} (depth k : ℕ) (w : World) → kindAt t k ≡ coupled → Ends Whatever Q (internalAs t services coupled depth (external t services depth clock) (internal t services depth clock) clock k w)
       → Ends Whatever Q (internal t services (suc depth) clock k w)
   unfolding internal
   event-as {Q} depth k w e h = subst (λ (z : Kind). Ends Whatever Q (internalAs t services z depth (external t services depth clock) (internal t services depth clock) clock k w)) (sym e) h
 
-  -- ---- an event happens at its row and below it, and changes no row that is less deep
-  module _ (ok : Fine t) where
-    abbrev Inner : ℕ → Happening → Type 0
-    Inner d (came clock k port content fate) = (k < length (t .rows)) × (d < depthAt t k)
-    Inner d (went clock k out) = (k < length (t .rows)) × (d < depthAt t k)
-    Inner d (waited advance) = Unit {0}
+  -- ---- components
+  abbrev Part : ℕ → ℕ → Type 0
+  Part i c = (c < length (t .rows)) × T (isComponent t i c)
 
-    inner-up : (d : ℕ) (h : Happening) → Inner (d + 1) h → Inner d h
-    inner-up d (came clock k port content fate) (l, b) = (l, omega arith)
-    inner-up d (went clock k out) (l, b) = (l, omega arith)
-    inner-up d (waited advance) u = tt
+  parts-of : (i : ℕ) → All (Part i) (components t (idAt t i))
+  parts-of i = all-those (isComponent t i) (all-in t ok) (λ c l s. (l, s))
 
-    record Above (d : ℕ) (states later : List State) : Type 0 where
-      long : length later ≡ length states
-      same : (r : ℕ) → depthAt t r < d → stateAt later r ≡ stateAt states r
+  one-deeper : (i c : ℕ) → i < length (t .rows) → Part i c → depthAt t c ≡ depthAt t i + 1
+  one-deeper i c l p = component-depth t ok i c l (p .0) (p .1)
 
-    above-on : {d : ℕ} {x y z : List State} → Above d x y → Above d y z → Above d x z
-    above-on a b = record { long = b .long ∙ a .long; same = λ r l. b .same r l ∙ a .same r l }
+  -- ---- the rows of a model: itself, its components, and theirs
+  data Under (c : ℕ) : ℕ → Type 0 where
+    top : Under c c
+    part : {k r : ℕ} → Under c k → k < length (t .rows) → Part k r → Under c r
 
-    above-less : {d e : ℕ} {x y : List State} → e ≤ d → Above d x y → Above e x y
-    above-less l a = record { long = a .long; same = λ r b. a .same r (omega arith) }
+  under-in : {c r : ℕ} → c < length (t .rows) → Under c r → r < length (t .rows)
+  under-in l top = l
+  under-in l (part u m p) = p .0
 
-    record Reach (d : ℕ) (w z : World) : Type 0 where
+  under-deeper : {c r : ℕ} → Under c r → depthAt t c ≤ depthAt t r
+  under-deeper top = omega arith
+  under-deeper (part {k = k} {r = r} u m p) = let h = under-deeper u in let e = one-deeper k r m p in omega arith
+
+  under-join : {j c r : ℕ} → j < length (t .rows) → Part j c → Under c r → Under j r
+  under-join l q top = part top l q
+  under-join l q (part u m p) = part (under-join l q u) m p
+
+  -- a row has one parent
+  one-parent : {k m r : ℕ} → k < length (t .rows) → m < length (t .rows) → Part k r → Part m r → k ≡ m
+  one-parent {k} {m} {r} l n p q =
+      let e = tells (parent-decides (idAt t k) (rowAt t r .parent)) (p .1) in
+      let f = tells (parent-decides (idAt t m) (rowAt t r .parent)) (q .1) in
+      let g : some (idAt t k) ≡ some (idAt t m) = sym e ∙ f in
+      ok .unique k m l n cc
+
+  -- of the rows of one depth a row is under one alone
+  under-one : {a b r : ℕ} → Under a r → Under b r → depthAt t a ≡ depthAt t b → a ≡ b
+  under-one top top d = refl
+  under-one {a} {b} top (part {k = k} v n q) d = absurd (let h = under-deeper v in let e = one-deeper k a n q in omega arith)
+  under-one {a} {b} (part {k = k} u m p) top d = absurd (let h = under-deeper u in let e = one-deeper k b m p in omega arith)
+  under-one {a} {b} (part {k = k} u m p) (part {k = j} v n q) d = under-one (subst (Under a) (one-parent m n p q) u) v d
+
+  -- ---- an event happens at its row and below it, and changes no other
+  abbrev Below : ℕ → ℕ → Type 0
+  Below j k = (c : ℕ) × Part j c × Under c k
+
+  abbrev Inner : ℕ → Happening → Type 0
+  Inner j (came clock k port content fate) = Below j k
+  Inner j (went clock k out) = Below j k
+  Inner j (waited advance) = Unit {0}
+
+  below-under : {j k : ℕ} → j < length (t .rows) → Below j k → Under j k
+  below-under l (c, p, u) = under-join l p u
+
+  inner-up : (i c : ℕ) → Part i c → (h : Happening) → Inner c h → Inner i h
+  inner-up i c p (came clock k port content fate) b = (c, p, below-under (p .0) b)
+  inner-up i c p (went clock k out) b = (c, p, below-under (p .0) b)
+  inner-up i c p (waited advance) u = tt
+
+  record Beside (j : ℕ) (states after : List State) : Type 0 where
+    long : length after ≡ length states
+    same : (r : ℕ) → (Under j r → ⊥) → stateAt after r ≡ stateAt states r
+
+  beside-on : {j : ℕ} {x y z : List State} → Beside j x y → Beside j y z → Beside j x z
+  beside-on a b = record { long = b .long ∙ a .long; same = λ r l. b .same r l ∙ a .same r l }
+
+  beside-up : {i c : ℕ} {x y : List State} → i < length (t .rows) → Part i c → Beside c x y → Beside i x y
+  beside-up l p a = record { long = a .long; same = λ r n. a .same r (λ u. n (under-join l p u)) }
+
+  put-beside : (j : ℕ) (s : State) (states : List State) → Beside j states (set states j s)
+  put-beside j s states = record { long = length-set states j s; same = λ r n. set-other j r s states (λ e. n (subst (Under j) e top)) }
+
+  record Reach (j : ℕ) (w z : World) : Type 0 where
+    more : List Happening
+    is : z .log ≡ w .log ++ more
+    inner : All (Inner j) more
+    beside : Beside j (w .states) (z .states)
+
+  record Comes (j port content : ℕ) (w z : World) : Type 0 where
+    fate : Fate
+    more : List Happening
+    is : z .log ≡ w .log ++ came clock j port content fate ∷ more
+    inner : All (Inner j) more
+    beside : Beside j (w .states) (z .states)
+
+  record Goes (j : ℕ) (w : World) (r : World × List Out) : Type 0 where
+    more : List Happening
+    is : r .0 .log ≡ w .log ++ (more ++ went clock j (r .1) ∷ [])
+    inner : All (Inner j) more
+    beside : Beside j (w .states) (r .0 .states)
+
+  joined : (L a b : List Happening) (y z : List Happening) → y ≡ L ++ a → z ≡ y ++ b → z ≡ L ++ (a ++ b)
+  joined L a b y z e f = f ∙ ap (λ (x : List Happening). x ++ b) e ∙ append-assoc L a b
+
+  reach-none : (j : ℕ) (w : World) → Reach j w w
+  reach-none j w = record { more = []; is = sym (append-nil (w .log)); inner = nil; beside = record { long = refl; same = λ r l. refl } }
+
+  reach-on : {j : ℕ} {w z y : World} → Reach j w z → Reach j z y → Reach j w y
+  reach-on {j} {w} {z} {y} a b = record {
+    more = a .more ++ b .more;
+    is = joined (w .log) (a .more) (b .more) (z .log) (y .log) (a .is) (b .is);
+    inner = all-append (a .inner) (b .inner);
+    beside = beside-on (a .beside) (b .beside);
+  }
+
+  put-reach : (j : ℕ) (s : State) (w : World) → Reach j w (becomes j s w)
+  put-reach j s w = record { more = []; is = sym (append-nil (w .log)); inner = nil; beside = put-beside j s (w .states) }
+
+  comes-reach : {i c port content : ℕ} {w z : World} → i < length (t .rows) → Part i c → Comes c port content w z → Reach i w z
+  comes-reach {i} {c} {port} {content} {w} {z} l p a = let one : Inner i (came clock c port content (a .fate)) = (c, p, top) in record {
+    more = came clock c port content (a .fate) ∷ a .more;
+    is = a .is;
+    inner = one & all-imp (inner-up i c p) (a .inner);
+    beside = beside-up l p (a .beside);
+  }
+
+  goes-reach : {i c : ℕ} {w : World} {r : World × List Out} → i < length (t .rows) → Part i c → Goes c w r → Reach i w (r .0)
+  goes-reach {i} {c} {w} {r} l p a = let one : Inner i (went clock c (r .1)) = (c, p, top) in record {
+    more = a .more ++ went clock c (r .1) ∷ [];
+    is = a .is;
+    inner = all-append (all-imp (inner-up i c p) (a .inner)) (one & nil);
+    beside = beside-up l p (a .beside);
+  }
+
+  comes-on : {j port content : ℕ} {w z y : World} → Comes j port content w z → Reach j z y → Comes j port content w y
+  comes-on {j} {port} {content} {w} {z} {y} a b = record {
+    fate = a .fate;
+    more = a .more ++ b .more;
+    is = joined (w .log) (came clock j port content (a .fate) ∷ a .more) (b .more) (z .log) (y .log) (a .is) (b .is);
+    inner = all-append (a .inner) (b .inner);
+    beside = beside-on (a .beside) (b .beside);
+  }
+
+  comes-atom : (j port content place : ℕ) (fate : Fate) (s : State) (w : World) → Comes j port content w (noted (came clock j port content fate) (becomes j s (moved place w)))
+  comes-atom j port content place fate s w = record { fate = fate; more = []; is = refl; inner = nil; beside = put-beside j s (w .states) }
+
+  external-as : (k : Kind) (depth j port content : ℕ) (w : World) → j < length (t .rows) → ((c port content : ℕ) (w : World) → c < length (t .rows) → Ends Whatever (Comes c port content w) (external t services depth clock c port content w))
+      → Ends Whatever (Comes j port content w) (externalAs t services k (external t services depth clock) clock j port content w)
+  external-as (processor p) depth j port content w l rec =
+      ends-bind _ (ends-whatever (processorExternal p services port content (asProcessor (stateAt (w .states) j)) (w .place))) (λ r _. goes (comes-atom j port content (r .1) (r .2) (ofProcessor (r .0)) w))
+  external-as (batcher b) depth j port content w l rec =
+      ends-bind _ (ends-whatever (batcherExternal b content (asBatcher (stateAt (w .states) j)))) (λ n _. goes (comes-atom j port content (w .place) Kept (ofBatcher n) w))
+  external-as (stopwatch p) depth j port content w l rec =
+      ends-bind _ (ends-whatever (stopwatchExternal p clock port content (asStopwatch (stateAt (w .states) j)))) (λ r _. goes (comes-atom j port content (w .place) (r .1) (ofStopwatch (r .0)) w))
+  external-as coupled depth j port content w l rec =
+      ends-each {P = Whatever} _ _ (all-any (inputs t (idAt t j) port) (λ _. tt))
+      (λ (to : Target) w₁ _ a. ends-each {P = Part j} _ w₁ (all-those (λ c. eqb (idAt t c) (to .target)) (parts-of j) (λ c p _. p))
+      (λ c w₂ p b. ends-map (rec c (to .port) content w₂ (p .0)) (λ r x. x) (λ z x. comes-on b (comes-reach l p x))) a)
+      (record { fate = Passed; more = []; is = refl; inner = nil; beside = record { long = refl; same = λ r l. refl } })
+
+  external-comes : (depth j port content : ℕ) (w : World) → j < length (t .rows) → Ends Whatever (Comes j port content w) (external t services depth clock j port content w)
+  unfolding external
+  external-comes zero j port content w l = stops tt
+  external-comes (suc depth) j port content w l = external-as (kindAt t j) depth j port content w l (external-comes depth)
+
+  goes-atom : (j place : ℕ) (s : State) (out : List Out) (w : World) → Goes j w (noted (went clock j out) (becomes j s (moved place w)), out)
+  goes-atom j place s out w = record { more = []; is = refl; inner = nil; beside = put-beside j s (w .states) }
+
+  internal-as : (k : Kind) (depth j : ℕ) (w : World) → j < length (t .rows) → ((c : ℕ) (w : World) → c < length (t .rows) → Ends Whatever (Goes c w) (internal t services depth clock c w))
+      → Ends Whatever (Goes j w) (internalAs t services k depth (external t services depth clock) (internal t services depth clock) clock j w)
+  internal-as (processor p) depth j w l rec =
+      ends-bind _ (ends-whatever (processorInternal services (asProcessor (stateAt (w .states) j)) (w .place))) (λ r _. goes (goes-atom j (r .1) (ofProcessor (r .0)) (map (outAt (p .output)) (r .2)) w))
+  internal-as (batcher b) depth j w l rec =
+      let r = batcherInternal b (asBatcher (stateAt (w .states) j)) in goes (goes-atom j (w .place) (ofBatcher (r .0)) (map (outAt (b .output)) (r .1)) w)
+  internal-as (stopwatch p) depth j w l rec =
+      let r = stopwatchInternal p (asStopwatch (stateAt (w .states) j)) in goes (goes-atom j (w .place) (ofStopwatch (r .0)) (map (outAt (p .output)) (r .1)) w)
+  internal-as coupled depth j w l rec =
+      ends-bind {Q = Reach j w} _
+      (ends-each {P = Part j} _ w (parts-of j)
+      (λ c w₁ p a. ends-each {P = Whatever} _ w₁ (all-any (those (λ (m : Parked). eqb (m .component) (idAt t c)) (asCoupled (stateAt (w .states) j))) (λ _. tt))
+      (λ m w₂ _ b. ends-map (external-comes depth c (m .port) (m .content) w₂ (p .0)) (λ r x. x) (λ z x. reach-on b (comes-reach l p x))) a) (reach-none j w))
+      (λ w₁ a. ends-bind {Q = λ r. Reach j w (r .0)} _
+      (ends-each {P = Part j} (turn t services depth (internal t services depth clock) j) (becomes j (ofCoupled []) w₁, []) (parts-of j)
+      (λ c r p b. ends-if (due t depth (r .0 .states) c)
+      (λ _. ends-bind _ (rec c (r .0) (p .0)) (λ x g. hands-keep (Reach j w) j c (λ z list q. reach-on q (put-reach j (ofCoupled list) z)) (x .1) (x .0, r .1) (reach-on b (goes-reach l p g))))
+      (λ _. goes {a = r} b))
+      (reach-on a (put-reach j (ofCoupled []) w₁)))
+      (λ r a. goes {a = (noted (went clock j (r .1)) (r .0), r .1)} (record {
+        more = a .more;
+        is = joined (w .log) (a .more) (went clock j (r .1) ∷ []) (r .0 .log) (r .0 .log ++ went clock j (r .1) ∷ []) (a .is) refl;
+        inner = a .inner;
+        beside = a .beside;
+      })))
+
+  internal-goes : (depth j : ℕ) (w : World) → j < length (t .rows) → Ends Whatever (Goes j w) (internal t services depth clock j w)
+  unfolding internal
+  internal-goes zero j w l = stops tt
+  internal-goes (suc depth) j w l = internal-as (kindAt t j) depth j w l (internal-goes depth)
+
+  -- ---- the event of the Coupled i: what comes to its components, and what is in its list
+  module _ (i : ℕ) (li : i < length (t .rows)) where
+    apart : (k : ℕ) → k < length (t .rows) → depthAt t i + 1 < depthAt t k → isComponent t i k ≡ false
+    apart k l d = go (isComponent t i k) (λ u. one-deeper i k li (l, u))
+      where
+        go : (b : Bool) → (T b → depthAt t k ≡ depthAt t i + 1) → b ≡ false
+        go true f = absurd (let e = f tt in omega arith)
+        go false f = refl
+
+    comings-append : (xs ys : List Happening) → comings t i (xs ++ ys) ≡ comings t i xs ++ comings t i ys
+    comings-append [] ys = refl
+    comings-append (came clock k port content fate ∷ xs) ys = go (isComponent t i k) (comings-append xs ys)
+      where
+        go : (b : Bool) → comings t i (xs ++ ys) ≡ comings t i xs ++ comings t i ys
+            → (if b then (k, port, content) ∷ comings t i (xs ++ ys) else comings t i (xs ++ ys)) ≡ (if b then (k, port, content) ∷ comings t i xs else comings t i xs) ++ comings t i ys
+        go true e = ap (λ (z : List (ℕ × ℕ × ℕ)). (k, port, content) ∷ z) e
+        go false e = e
+    comings-append (went clock k out ∷ xs) ys = comings-append xs ys
+    comings-append (waited advance ∷ xs) ys = comings-append xs ys
+
+    newly-append : (xs ys : List Happening) → newly t i (xs ++ ys) ≡ newly t i xs ++ newly t i ys
+    newly-append [] ys = refl
+    newly-append (came clock k port content fate ∷ xs) ys = newly-append xs ys
+    newly-append (went clock k out ∷ xs) ys = go (isComponent t i k) (newly-append xs ys)
+      where
+        go : (b : Bool) → newly t i (xs ++ ys) ≡ newly t i xs ++ newly t i ys
+            → (if b then parkedBy t i k out ++ newly t i (xs ++ ys) else newly t i (xs ++ ys)) ≡ (if b then parkedBy t i k out ++ newly t i xs else newly t i xs) ++ newly t i ys
+        go true e = ap (λ (z : List Parked). parkedBy t i k out ++ z) e ∙ sym (append-assoc (parkedBy t i k out) (newly t i xs) (newly t i ys))
+        go false e = e
+    newly-append (waited advance ∷ xs) ys = newly-append xs ys
+
+    -- inside a component, nothing comes to a component, and none of them goes
+    further-in : (c k : ℕ) → Part i c → Below c k → isComponent t i k ≡ false
+    further-in c k p (b, q, u) = apart k (under-in (q .0) u) (let h = under-deeper u in let e = one-deeper c b (p .0) q in let f = one-deeper i c li p in omega arith)
+
+    comings-inside : (c : ℕ) → Part i c → {log : List Happening} → All (Inner c) log → comings t i log ≡ []
+    comings-inside c q nil = refl
+    comings-inside c q (_&_ {x = came clock k port content fate} {xs = xs} h p) = ap (λ (b : Bool). if b then (k, port, content) ∷ comings t i xs else comings t i xs) (further-in c k q h) ∙ comings-inside c q p
+    comings-inside c q (_&_ {x = went clock k out} h p) = comings-inside c q p
+    comings-inside c q (_&_ {x = waited advance} h p) = comings-inside c q p
+
+    newly-inside : (c : ℕ) → Part i c → {log : List Happening} → All (Inner c) log → newly t i log ≡ []
+    newly-inside c q nil = refl
+    newly-inside c q (_&_ {x = came clock k port content fate} h p) = newly-inside c q p
+    newly-inside c q (_&_ {x = went clock k out} {xs = xs} h p) = ap (λ (b : Bool). if b then parkedBy t i k out ++ newly t i xs else newly t i xs) (further-in c k q h) ∙ newly-inside c q p
+    newly-inside c q (_&_ {x = waited advance} h p) = newly-inside c q p
+
+    -- from w to z this came to the components, and of what they put out this list is made
+    record Hand (w : World) (arrived : List (ℕ × ℕ × ℕ)) (parked : List Parked) (z : World) : Type 0 where
       more : List Happening
       is : z .log ≡ w .log ++ more
-      inner : All (Inner d) more
-      above : Above d (w .states) (z .states)
+      arrives : comings t i more ≡ arrived
+      parks : newly t i more ≡ parked
+      long : length (z .states) ≡ length (w .states)
 
-    record Comes (j port content : ℕ) (w z : World) : Type 0 where
-      fate : Fate
-      more : List Happening
-      is : z .log ≡ w .log ++ came clock j port content fate ∷ more
-      inner : All (Inner (depthAt t j)) more
-      above : Above (depthAt t j) (w .states) (z .states)
-
-    record Goes (j : ℕ) (w : World) (r : World × List Out) : Type 0 where
-      more : List Happening
-      is : r .0 .log ≡ w .log ++ (more ++ went clock j (r .1) ∷ [])
-      inner : All (Inner (depthAt t j)) more
-      above : Above (depthAt t j) (w .states) (r .0 .states)
-
-    joined : (L a b : List Happening) (y z : List Happening) → y ≡ L ++ a → z ≡ y ++ b → z ≡ L ++ (a ++ b)
-    joined L a b y z e f = f ∙ ap (λ (x : List Happening). x ++ b) e ∙ append-assoc L a b
-
-    reach-none : (d : ℕ) (w : World) → Reach d w w
-    reach-none d w = record { more = []; is = sym (append-nil (w .log)); inner = nil; above = record { long = refl; same = λ r l. refl } }
-
-    reach-on : {d : ℕ} {w z y : World} → Reach d w z → Reach d z y → Reach d w y
-    reach-on {d} {w} {z} {y} a b = record {
-      more = a .more ++ b .more;
-      is = joined (w .log) (a .more) (b .more) (z .log) (y .log) (a .is) (b .is);
-      inner = all-append (a .inner) (b .inner);
-      above = above-on (a .above) (b .above);
+    hand-on : {w z y : World} {a b : List (ℕ × ℕ × ℕ)} {p q : List Parked} → Hand w a p z → Hand z b q y → Hand w (a ++ b) (p ++ q) y
+    hand-on {w} {z} {y} h k = record {
+      more = h .more ++ k .more;
+      is = joined (w .log) (h .more) (k .more) (z .log) (y .log) (h .is) (k .is);
+      arrives = comings-append (h .more) (k .more) ∙ rw (h .arrives, k .arrives) refl;
+      parks = newly-append (h .more) (k .more) ∙ rw (h .parks, k .parks) refl;
+      long = k .long ∙ h .long;
     }
 
-    put-above : (j : ℕ) (s : State) (states : List State) → Above (depthAt t j) states (set states j s)
-    put-above j s states = record { long = length-set states j s; same = λ r l. set-other j r s states (λ e. let n = ap (depthAt t) e in omega arith) }
+    hand-none : (w : World) → Hand w [] [] w
+    hand-none w = record { more = []; is = sym (append-nil (w .log)); arrives = refl; parks = refl; long = refl }
 
-    put-reach : (j : ℕ) (s : State) (w : World) → Reach (depthAt t j) w (becomes j s w)
-    put-reach j s w = record { more = []; is = sym (append-nil (w .log)); inner = nil; above = put-above j s (w .states) }
+    is-part : (c : ℕ) → Part i c → isComponent t i c ≡ true
+    is-part c p = go (isComponent t i c) (p .1)
+      where
+        go : (b : Bool) → T b → b ≡ true
+        go true u = refl
+        go false u = absurd u
 
-    abbrev Part : ℕ → ℕ → Type 0
-    Part i c = (c < length (t .rows)) × T (isComponent t i c)
-
-    parts-of : (i : ℕ) → All (Part i) (components t (idAt t i))
-    parts-of i = all-those (isComponent t i) (all-in t ok) (λ c l s. (l, s))
-
-    one-deeper : (i c : ℕ) → i < length (t .rows) → Part i c → depthAt t c ≡ depthAt t i + 1
-    one-deeper i c l p = component-depth t ok i c l (p .0) (p .1)
-
-    comes-reach : {i c port content : ℕ} {w z : World} → i < length (t .rows) → Part i c → Comes c port content w z → Reach (depthAt t i) w z
-    comes-reach {i} {c} {port} {content} {w} {z} l p a = let e = one-deeper i c l p in let one : Inner (depthAt t i) (came clock c port content (a .fate)) = (p .0, omega arith) in record {
+    hand-comes : {c port content : ℕ} {w z : World} → Part i c → Comes c port content w z → Hand w ((c, port, content) ∷ []) [] z
+    hand-comes {c} {port} {content} p a = record {
       more = came clock c port content (a .fate) ∷ a .more;
       is = a .is;
-      inner = one & all-imp (inner-up (depthAt t i)) (subst (λ (d : ℕ). All (Inner d) (a .more)) e (a .inner));
-      above = above-less (omega arith) (a .above);
+      arrives = ap (λ (b : Bool). if b then (c, port, content) ∷ comings t i (a .more) else comings t i (a .more)) (is-part c p) ∙ ap (λ (z : List (ℕ × ℕ × ℕ)). (c, port, content) ∷ z) (comings-inside c p (a .inner));
+      parks = newly-inside c p (a .inner);
+      long = a .beside .long;
     }
 
-    goes-reach : {i c : ℕ} {w : World} {r : World × List Out} → i < length (t .rows) → Part i c → Goes c w r → Reach (depthAt t i) w (r .0)
-    goes-reach {i} {c} {w} {r} l p a = let e = one-deeper i c l p in let one : Inner (depthAt t i) (went clock c (r .1)) = (p .0, omega arith) in record {
+    hand-goes : {c : ℕ} {w : World} {r : World × List Out} → Part i c → Goes c w r → Hand w [] (parkedBy t i c (r .1)) (r .0)
+    hand-goes {c} {w} {r} p a = record {
       more = a .more ++ went clock c (r .1) ∷ [];
       is = a .is;
-      inner = all-append (all-imp (inner-up (depthAt t i)) (subst (λ (d : ℕ). All (Inner d) (a .more)) e (a .inner))) (one & nil);
-      above = above-less (omega arith) (a .above);
+      arrives = comings-append (a .more) (went clock c (r .1) ∷ []) ∙ rw (comings-inside c p (a .inner)) refl;
+      parks =
+          newly-append (a .more) (went clock c (r .1) ∷ [])
+          ∙ ap (λ (z : List Parked). z ++ newly t i (went clock c (r .1) ∷ [])) (newly-inside c p (a .inner))
+          ∙ ap (λ (b : Bool). if b then parkedBy t i c (r .1) ++ [] else []) (is-part c p)
+          ∙ append-nil (parkedBy t i c (r .1));
+      long = a .beside .long;
     }
 
-    comes-on : {j port content : ℕ} {w z y : World} → Comes j port content w z → Reach (depthAt t j) z y → Comes j port content w y
-    comes-on {j} {port} {content} {w} {z} {y} a b = record {
-      fate = a .fate;
-      more = a .more ++ b .more;
-      is = joined (w .log) (came clock j port content (a .fate) ∷ a .more) (b .more) (z .log) (y .log) (a .is) (b .is);
-      inner = all-append (a .inner) (b .inner);
-      above = above-on (a .above) (b .above);
-    }
+    -- what the component c takes, and what all take
+    takes : (depth c : ℕ) → Part i c → (ms : List Parked) (w : World) → Ends Whatever (Hand w (map (λ (m : Parked). (c, m .port, m .content)) ms) []) (each (λ (m : Parked). external t services depth clock c (m .port) (m .content)) ms w)
+    takes depth c p [] w = goes (hand-none w)
+    takes depth c p (m ∷ ms) w = ends-bind _ (external-comes depth c (m .port) (m .content) w (p .0)) (λ z a. ends-map (takes depth c p ms z) (λ r b. b) (λ y h. hand-on (hand-comes p a) h))
 
-    comes-atom : (j port content place : ℕ) (fate : Fate) (s : State) (w : World) → Comes j port content w (noted (came clock j port content fate) (becomes j s (moved place w)))
-    comes-atom j port content place fate s w = record { fate = fate; more = []; is = refl; inner = nil; above = put-above j s (w .states) }
+    take-all : (depth : ℕ) (list : List Parked) {cs : List ℕ} → All (Part i) cs → (w : World)
+        → Ends Whatever (Hand w (handedTo t list cs) []) (each (λ c. each (λ (m : Parked). external t services depth clock c (m .port) (m .content)) (those (λ (m : Parked). eqb (m .component) (idAt t c)) list)) cs w)
+    take-all depth list nil w = goes (hand-none w)
+    take-all depth list (_&_ {x = c} p ps) w = ends-bind _ (takes depth c p (those (λ (m : Parked). eqb (m .component) (idAt t c)) list) w) (λ z a. ends-map (take-all depth list ps z) (λ r b. b) (λ y h. hand-on a h))
 
-    external-as : (k : Kind) (depth j port content : ℕ) (w : World) → j < length (t .rows) → ((c port content : ℕ) (w : World) → c < length (t .rows) → Ends Whatever (Comes c port content w) (external t services depth clock c port content w))
-        → Ends Whatever (Comes j port content w) (externalAs t services k (external t services depth clock) clock j port content w)
-    external-as (processor p) depth j port content w l rec =
-        ends-bind _ (ends-whatever (processorExternal p services port content (asProcessor (stateAt (w .states) j)) (w .place))) (λ r _. goes (comes-atom j port content (r .1) (r .2) (ofProcessor (r .0)) w))
-    external-as (batcher b) depth j port content w l rec =
-        ends-bind _ (ends-whatever (batcherExternal b content (asBatcher (stateAt (w .states) j)))) (λ n _. goes (comes-atom j port content (w .place) Kept (ofBatcher n) w))
-    external-as (stopwatch p) depth j port content w l rec =
-        ends-bind _ (ends-whatever (stopwatchExternal p clock port content (asStopwatch (stateAt (w .states) j)))) (λ r _. goes (comes-atom j port content (w .place) (r .1) (ofStopwatch (r .0)) w))
-    external-as coupled depth j port content w l rec =
-        ends-each {P = Whatever} _ _ (all-any (inputs t (idAt t j) port) (λ _. tt))
-        (λ (to : Target) w₁ _ a. ends-each {P = Part j} _ w₁ (all-those (λ c. eqb (idAt t c) (to .target)) (parts-of j) (λ c p _. p))
-        (λ c w₂ p b. ends-map (rec c (to .port) content w₂ (p .0)) (λ r x. x) (λ z x. comes-on b (comes-reach l p x))) a)
-        (record { fate = Passed; more = []; is = refl; inner = nil; above = record { long = refl; same = λ r l. refl } })
+    -- what a component puts out is parked behind what the list has
+    abbrev Lists : List Parked → List Happening → ℕ → World × List Out → Type 0
+    Lists list log long r = (stateAt (r .0 .states) i ≡ ofCoupled list) × (r .0 .log ≡ log) × (length (r .0 .states) ≡ long)
 
-    external-comes : (depth j port content : ℕ) (w : World) → j < length (t .rows) → Ends Whatever (Comes j port content w) (external t services depth clock j port content w)
-    unfolding external
-    external-comes zero j port content w l = stops tt
-    external-comes (suc depth) j port content w l = external-as (kindAt t j) depth j port content w l (external-comes depth)
+    abbrev parksAs : ℕ → Out → List Parked
+    parksAs c m = map (λ (to : Target). record { component = to .target; port = to .port; content = m .content }) (internals t (idAt t i) (idAt t c) (m .port))
 
-    goes-atom : (j place : ℕ) (s : State) (out : List Out) (w : World) → Goes j w (noted (went clock j out) (becomes j s (moved place w)), out)
-    goes-atom j place s out w = record { more = []; is = refl; inner = nil; above = put-above j s (w .states) }
+    hand-lists : (c : ℕ) (m : Out) (r : World × List Out) (list : List Parked) → i < length (r .0 .states) → stateAt (r .0 .states) i ≡ ofCoupled list
+        → Ends Whatever (Lists (list ++ parksAs c m) (r .0 .log) (length (r .0 .states))) (hand t services i c m r)
+    hand-lists c m r list l e =
+        ends-bind {Q = λ w. Lists (list ++ parksAs c m) (r .0 .log) (length (r .0 .states)) (w, [])} _
+        (ends-bind _ (ends-most mostParked NoMessageRoom (asCoupled (stateAt (r .0 .states) i) ++ parksAs c m) tt)
+        (λ more k. goes (getD-set-same (r .0 .states) i (ofCoupled more) (ofCoupled []) l ∙ ap ofCoupled (k .0 ∙ ap (λ (z : State). asCoupled z ++ parksAs c m) e), refl, length-set (r .0 .states) i (ofCoupled more))))
+        (λ w k. ends-bind {Q = Whatever} _ (ends-whatever (atMost mostOut NoMessageRoom (r .1 ++ map (λ port. outAt port (m .content)) (outputs t (idAt t i) (idAt t c) (m .port))))) (λ out _. goes {a = (w, out)} k))
 
-    internal-as : (k : Kind) (depth j : ℕ) (w : World) → j < length (t .rows) → ((c : ℕ) (w : World) → c < length (t .rows) → Ends Whatever (Goes c w) (internal t services depth clock c w))
-        → Ends Whatever (Goes j w) (internalAs t services k depth (external t services depth clock) (internal t services depth clock) clock j w)
-    internal-as (processor p) depth j w l rec =
-        ends-bind _ (ends-whatever (processorInternal services (asProcessor (stateAt (w .states) j)) (w .place))) (λ r _. goes (goes-atom j (r .1) (ofProcessor (r .0)) (map (outAt (p .output)) (r .2)) w))
-    internal-as (batcher b) depth j w l rec =
-        let r = batcherInternal b (asBatcher (stateAt (w .states) j)) in goes (goes-atom j (w .place) (ofBatcher (r .0)) (map (outAt (b .output)) (r .1)) w)
-    internal-as (stopwatch p) depth j w l rec =
-        let r = stopwatchInternal p (asStopwatch (stateAt (w .states) j)) in goes (goes-atom j (w .place) (ofStopwatch (r .0)) (map (outAt (p .output)) (r .1)) w)
-    internal-as coupled depth j w l rec =
-        ends-bind {Q = Reach (depthAt t j) w} _
-        (ends-each {P = Part j} _ w (parts-of j)
-        (λ c w₁ p a. ends-each {P = Whatever} _ w₁ (all-any (those (λ (m : Parked). eqb (m .component) (idAt t c)) (asCoupled (stateAt (w .states) j))) (λ _. tt))
-        (λ m w₂ _ b. ends-map (external-comes depth c (m .port) (m .content) w₂ (p .0)) (λ r x. x) (λ z x. reach-on b (comes-reach l p x))) a) (reach-none (depthAt t j) w))
-        (λ w₁ a. ends-bind {Q = λ r. Reach (depthAt t j) w (r .0)} _
-        (ends-each {P = Part j} (turn t services depth (internal t services depth clock) j) (becomes j (ofCoupled []) w₁, []) (parts-of j)
-        (λ c r p b. ends-if (due t depth (r .0 .states) c)
-        (λ _. ends-bind _ (rec c (r .0) (p .0)) (λ x g. hands-keep (Reach (depthAt t j) w) j c (λ z list q. reach-on q (put-reach j (ofCoupled list) z)) (x .1) (x .0, r .1) (reach-on b (goes-reach l p g))))
-        (λ _. goes {a = r} b))
-        (reach-on a (put-reach j (ofCoupled []) w₁)))
-        (λ r a. goes {a = (noted (went clock j (r .1)) (r .0), r .1)} (record {
-          more = a .more;
-          is = joined (w .log) (a .more) (went clock j (r .1) ∷ []) (r .0 .log) (r .0 .log ++ went clock j (r .1) ∷ []) (a .is) refl;
-          inner = a .inner;
-          above = a .above;
+    hands-list : (c : ℕ) (out : List Out) (r : World × List Out) (list : List Parked) → i < length (r .0 .states) → stateAt (r .0 .states) i ≡ ofCoupled list
+        → Ends Whatever (Lists (list ++ parkedBy t i c out) (r .0 .log) (length (r .0 .states))) (each (hand t services i c) out r)
+    hands-list c [] r list l e = goes (e ∙ ap ofCoupled (sym (append-nil list)), refl, refl)
+    hands-list c (m ∷ out) r list l e =
+        ends-bind _ (hand-lists c m r list l e)
+        (λ y k. ends-map (hands-list c out y (list ++ parksAs c m) (let n = k .2 in omega arith) (k .0)) (λ r b. b)
+        (λ x h. (h .0 ∙ ap ofCoupled (append-assoc list (parksAs c m) (parkedBy t i c out)), h .1 ∙ k .1, h .2 ∙ k .2)))
+
+    -- the turns of the components, after the list was emptied in w
+    record Turned (w : World) (r : World × List Out) : Type 0 where
+      list : List Parked
+      made : Hand w [] list (r .0)
+      has : stateAt (r .0 .states) i ≡ ofCoupled list
+
+    turned-on : (depth c : ℕ) → Part i c → (w : World) → i < length (w .states) → (r : World × List Out) → Turned w r → Ends Whatever (Turned w) (turn t services depth (internal t services depth clock) i c r)
+    turned-on depth c p w l r h =
+        ends-if (due t depth (r .0 .states) c)
+        (λ _. ends-bind _ (internal-goes depth c (r .0) (p .0))
+        (λ x g. let made = hand-on (h .made) (hand-goes p g) in let deeper = one-deeper i c li p in
+        ends-map (hands-list c (x .1) (x .0, r .1) (h .list) (let n = made .long in omega arith) (g .beside .same i (λ u. let b = under-deeper u in absurd (omega arith)) ∙ h .has)) (λ r b. b)
+        (λ y k. record {
+          list = h .list ++ parkedBy t i c (x .1);
+          made = record { more = made .more; is = k .1 ∙ made .is; arrives = made .arrives; parks = made .parks; long = k .2 ∙ made .long };
+          has = k .0;
         })))
+        (λ _. goes {a = r} h)
 
-    internal-goes : (depth j : ℕ) (w : World) → j < length (t .rows) → Ends Whatever (Goes j w) (internal t services depth clock j w)
+    itself-no-part : isComponent t i i ≡ false
+    itself-no-part = go (isComponent t i i) (λ u. one-deeper i i li (li, u))
+      where
+        go : (b : Bool) → (T b → depthAt t i ≡ depthAt t i + 1) → b ≡ false
+        go true f = absurd (let e = f tt in omega arith)
+        go false f = refl
+
+    record Event (w : World) (r : World × List Out) : Type 0 where
+      since : List Happening
+      behind-it : r .0 .log ≡ w .log ++ since
+      handed : comings t i since ≡ handedTo t (asCoupled (stateAt (w .states) i)) (components t (idAt t i))
+      list-after : stateAt (r .0 .states) i ≡ ofCoupled (newly t i since)
+
+    its-event : (depth : ℕ) (w : World) → kindAt t i ≡ coupled → i < length (w .states) → Ends Whatever (Event w) (internal t services depth clock i w)
     unfolding internal
-    internal-goes zero j w l = stops tt
-    internal-goes (suc depth) j w l = internal-as (kindAt t j) depth j w l (internal-goes depth)
-
-    -- ---- the event of the Coupled i: what comes to its components, and what is in its list
-    module _ (i : ℕ) (li : i < length (t .rows)) where
-      apart : (k : ℕ) → k < length (t .rows) → depthAt t i + 1 < depthAt t k → isComponent t i k ≡ false
-      apart k l d = go (isComponent t i k) (λ u. one-deeper i k li (l, u))
-        where
-          go : (b : Bool) → (T b → depthAt t k ≡ depthAt t i + 1) → b ≡ false
-          go true f = absurd (let e = f tt in omega arith)
-          go false f = refl
-
-      comings-append : (xs ys : List Happening) → comings t i (xs ++ ys) ≡ comings t i xs ++ comings t i ys
-      comings-append [] ys = refl
-      comings-append (came clock k port content fate ∷ xs) ys = go (isComponent t i k) (comings-append xs ys)
-        where
-          go : (b : Bool) → comings t i (xs ++ ys) ≡ comings t i xs ++ comings t i ys
-              → (if b then (k, port, content) ∷ comings t i (xs ++ ys) else comings t i (xs ++ ys)) ≡ (if b then (k, port, content) ∷ comings t i xs else comings t i xs) ++ comings t i ys
-          go true e = ap (λ (z : List (ℕ × ℕ × ℕ)). (k, port, content) ∷ z) e
-          go false e = e
-      comings-append (went clock k out ∷ xs) ys = comings-append xs ys
-      comings-append (waited advance ∷ xs) ys = comings-append xs ys
-
-      newly-append : (xs ys : List Happening) → newly t i (xs ++ ys) ≡ newly t i xs ++ newly t i ys
-      newly-append [] ys = refl
-      newly-append (came clock k port content fate ∷ xs) ys = newly-append xs ys
-      newly-append (went clock k out ∷ xs) ys = go (isComponent t i k) (newly-append xs ys)
-        where
-          go : (b : Bool) → newly t i (xs ++ ys) ≡ newly t i xs ++ newly t i ys
-              → (if b then parkedBy t i k out ++ newly t i (xs ++ ys) else newly t i (xs ++ ys)) ≡ (if b then parkedBy t i k out ++ newly t i xs else newly t i xs) ++ newly t i ys
-          go true e = ap (λ (z : List Parked). parkedBy t i k out ++ z) e ∙ sym (append-assoc (parkedBy t i k out) (newly t i xs) (newly t i ys))
-          go false e = e
-      newly-append (waited advance ∷ xs) ys = newly-append xs ys
-
-      -- further inside, nothing comes to a component, and none of them goes
-      abbrev Inside : List Happening → Type 0
-      Inside log = All (Inner (depthAt t i + 1)) log
-
-      comings-inside : {log : List Happening} → Inside log → comings t i log ≡ []
-      comings-inside nil = refl
-      comings-inside (_&_ {x = came clock k port content fate} {xs = xs} h p) = ap (λ (b : Bool). if b then (k, port, content) ∷ comings t i xs else comings t i xs) (apart k (h .0) (h .1)) ∙ comings-inside p
-      comings-inside (_&_ {x = went clock k out} h p) = comings-inside p
-      comings-inside (_&_ {x = waited advance} h p) = comings-inside p
-
-      newly-inside : {log : List Happening} → Inside log → newly t i log ≡ []
-      newly-inside nil = refl
-      newly-inside (_&_ {x = came clock k port content fate} h p) = newly-inside p
-      newly-inside (_&_ {x = went clock k out} {xs = xs} h p) = ap (λ (b : Bool). if b then parkedBy t i k out ++ newly t i xs else newly t i xs) (apart k (h .0) (h .1)) ∙ newly-inside p
-      newly-inside (_&_ {x = waited advance} h p) = newly-inside p
-
-      -- from w to z this came to the components, and of what they put out this list is made
-      record Hand (w : World) (arrived : List (ℕ × ℕ × ℕ)) (parked : List Parked) (z : World) : Type 0 where
-        more : List Happening
-        is : z .log ≡ w .log ++ more
-        arrives : comings t i more ≡ arrived
-        parks : newly t i more ≡ parked
-        long : length (z .states) ≡ length (w .states)
-
-      hand-on : {w z y : World} {a b : List (ℕ × ℕ × ℕ)} {p q : List Parked} → Hand w a p z → Hand z b q y → Hand w (a ++ b) (p ++ q) y
-      hand-on {w} {z} {y} h k = record {
-        more = h .more ++ k .more;
-        is = joined (w .log) (h .more) (k .more) (z .log) (y .log) (h .is) (k .is);
-        arrives = comings-append (h .more) (k .more) ∙ rw (h .arrives, k .arrives) refl;
-        parks = newly-append (h .more) (k .more) ∙ rw (h .parks, k .parks) refl;
-        long = k .long ∙ h .long;
-      }
-
-      hand-none : (w : World) → Hand w [] [] w
-      hand-none w = record { more = []; is = sym (append-nil (w .log)); arrives = refl; parks = refl; long = refl }
-
-      is-part : (c : ℕ) → Part i c → isComponent t i c ≡ true
-      is-part c p = go (isComponent t i c) (p .1)
-        where
-          go : (b : Bool) → T b → b ≡ true
-          go true u = refl
-          go false u = absurd u
-
-      hand-comes : {c port content : ℕ} {w z : World} → Part i c → Comes c port content w z → Hand w ((c, port, content) ∷ []) [] z
-      hand-comes {c} {port} {content} p a = let inner = subst (λ (d : ℕ). All (Inner d) (a .more)) (one-deeper i c li p) (a .inner) in record {
-        more = came clock c port content (a .fate) ∷ a .more;
-        is = a .is;
-        arrives = ap (λ (b : Bool). if b then (c, port, content) ∷ comings t i (a .more) else comings t i (a .more)) (is-part c p) ∙ ap (λ (z : List (ℕ × ℕ × ℕ)). (c, port, content) ∷ z) (comings-inside inner);
-        parks = newly-inside inner;
-        long = a .above .long;
-      }
-
-      hand-goes : {c : ℕ} {w : World} {r : World × List Out} → Part i c → Goes c w r → Hand w [] (parkedBy t i c (r .1)) (r .0)
-      hand-goes {c} {w} {r} p a = let inner = subst (λ (d : ℕ). All (Inner d) (a .more)) (one-deeper i c li p) (a .inner) in record {
-        more = a .more ++ went clock c (r .1) ∷ [];
-        is = a .is;
-        arrives = comings-append (a .more) (went clock c (r .1) ∷ []) ∙ rw (comings-inside inner) refl;
-        parks =
-            newly-append (a .more) (went clock c (r .1) ∷ [])
-            ∙ ap (λ (z : List Parked). z ++ newly t i (went clock c (r .1) ∷ [])) (newly-inside inner)
-            ∙ ap (λ (b : Bool). if b then parkedBy t i c (r .1) ++ [] else []) (is-part c p)
-            ∙ append-nil (parkedBy t i c (r .1));
-        long = a .above .long;
-      }
-
-      -- what the component c takes, and what all take
-      takes : (depth c : ℕ) → Part i c → (ms : List Parked) (w : World) → Ends Whatever (Hand w (map (λ (m : Parked). (c, m .port, m .content)) ms) []) (each (λ (m : Parked). external t services depth clock c (m .port) (m .content)) ms w)
-      takes depth c p [] w = goes (hand-none w)
-      takes depth c p (m ∷ ms) w = ends-bind _ (external-comes depth c (m .port) (m .content) w (p .0)) (λ z a. ends-map (takes depth c p ms z) (λ r b. b) (λ y h. hand-on (hand-comes p a) h))
-
-      take-all : (depth : ℕ) (list : List Parked) {cs : List ℕ} → All (Part i) cs → (w : World)
-          → Ends Whatever (Hand w (handedTo t list cs) []) (each (λ c. each (λ (m : Parked). external t services depth clock c (m .port) (m .content)) (those (λ (m : Parked). eqb (m .component) (idAt t c)) list)) cs w)
-      take-all depth list nil w = goes (hand-none w)
-      take-all depth list (_&_ {x = c} p ps) w = ends-bind _ (takes depth c p (those (λ (m : Parked). eqb (m .component) (idAt t c)) list) w) (λ z a. ends-map (take-all depth list ps z) (λ r b. b) (λ y h. hand-on a h))
-
-      -- what a component puts out is parked behind what the list has
-      abbrev Lists : List Parked → List Happening → ℕ → World × List Out → Type 0
-      Lists list log long r = (stateAt (r .0 .states) i ≡ ofCoupled list) × (r .0 .log ≡ log) × (length (r .0 .states) ≡ long)
-
-      abbrev parksAs : ℕ → Out → List Parked
-      parksAs c m = map (λ (to : Target). record { component = to .target; port = to .port; content = m .content }) (internals t (idAt t i) (idAt t c) (m .port))
-
-      hand-lists : (c : ℕ) (m : Out) (r : World × List Out) (list : List Parked) → i < length (r .0 .states) → stateAt (r .0 .states) i ≡ ofCoupled list
-          → Ends Whatever (Lists (list ++ parksAs c m) (r .0 .log) (length (r .0 .states))) (hand t services i c m r)
-      hand-lists c m r list l e =
-          ends-bind {Q = λ w. Lists (list ++ parksAs c m) (r .0 .log) (length (r .0 .states)) (w, [])} _
-          (ends-bind _ (ends-most mostParked NoMessageRoom (asCoupled (stateAt (r .0 .states) i) ++ parksAs c m) tt)
-          (λ more k. goes (getD-set-same (r .0 .states) i (ofCoupled more) (ofCoupled []) l ∙ ap ofCoupled (k .0 ∙ ap (λ (z : State). asCoupled z ++ parksAs c m) e), refl, length-set (r .0 .states) i (ofCoupled more))))
-          (λ w k. ends-bind {Q = Whatever} _ (ends-whatever (atMost mostOut NoMessageRoom (r .1 ++ map (λ port. outAt port (m .content)) (outputs t (idAt t i) (idAt t c) (m .port))))) (λ out _. goes {a = (w, out)} k))
-
-      hands-list : (c : ℕ) (out : List Out) (r : World × List Out) (list : List Parked) → i < length (r .0 .states) → stateAt (r .0 .states) i ≡ ofCoupled list
-          → Ends Whatever (Lists (list ++ parkedBy t i c out) (r .0 .log) (length (r .0 .states))) (each (hand t services i c) out r)
-      hands-list c [] r list l e = goes (e ∙ ap ofCoupled (sym (append-nil list)), refl, refl)
-      hands-list c (m ∷ out) r list l e =
-          ends-bind _ (hand-lists c m r list l e)
-          (λ y k. ends-map (hands-list c out y (list ++ parksAs c m) (let n = k .2 in omega arith) (k .0)) (λ r b. b)
-          (λ x h. (h .0 ∙ ap ofCoupled (append-assoc list (parksAs c m) (parkedBy t i c out)), h .1 ∙ k .1, h .2 ∙ k .2)))
-
-      -- the turns of the components, after the list was emptied in w
-      record Turned (w : World) (r : World × List Out) : Type 0 where
-        list : List Parked
-        made : Hand w [] list (r .0)
-        has : stateAt (r .0 .states) i ≡ ofCoupled list
-
-      turned-on : (depth c : ℕ) → Part i c → (w : World) → i < length (w .states) → (r : World × List Out) → Turned w r → Ends Whatever (Turned w) (turn t services depth (internal t services depth clock) i c r)
-      turned-on depth c p w l r h =
-          ends-if (due t depth (r .0 .states) c)
-          (λ _. ends-bind _ (internal-goes depth c (r .0) (p .0))
-          (λ x g. let made = hand-on (h .made) (hand-goes p g) in let deeper = one-deeper i c li p in
-          ends-map (hands-list c (x .1) (x .0, r .1) (h .list) (let n = made .long in omega arith) (g .above .same i (omega arith) ∙ h .has)) (λ r b. b)
-          (λ y k. record {
-            list = h .list ++ parkedBy t i c (x .1);
-            made = record { more = made .more; is = k .1 ∙ made .is; arrives = made .arrives; parks = made .parks; long = k .2 ∙ made .long };
-            has = k .0;
-          })))
-          (λ _. goes {a = r} h)
-
-      itself-no-part : isComponent t i i ≡ false
-      itself-no-part = go (isComponent t i i) (λ u. one-deeper i i li (li, u))
-        where
-          go : (b : Bool) → (T b → depthAt t i ≡ depthAt t i + 1) → b ≡ false
-          go true f = absurd (let e = f tt in omega arith)
-          go false f = refl
-
-      record Event (w : World) (r : World × List Out) : Type 0 where
-        since : List Happening
-        behind-it : r .0 .log ≡ w .log ++ since
-        handed : comings t i since ≡ handedTo t (asCoupled (stateAt (w .states) i)) (components t (idAt t i))
-        list-after : asCoupled (stateAt (r .0 .states) i) ≡ newly t i since
-
-      its-event : (depth : ℕ) (w : World) → kindAt t i ≡ coupled → i < length (w .states) → Ends Whatever (Event w) (internal t services depth clock i w)
-      unfolding internal
-      its-event zero w is l = stops tt
-      its-event (suc depth) w is l =
-          event-as depth i w is
-          (ends-bind _ (take-all depth (asCoupled (stateAt (w .states) i)) (parts-of i) w)
-          (λ w₁ a. let long : i < length (w₁ .states) = (let n = a .long in omega arith) in
-          ends-bind {Q = Turned w₁} _
-          (ends-each {P = Part i} (turn t services depth (internal t services depth clock) i) (becomes i (ofCoupled []) w₁, []) (parts-of i) (λ c r p h. turned-on depth c p w₁ long r h)
-          (record {
-            list = [];
-            made = record { more = []; is = sym (append-nil (w₁ .log)); arrives = refl; parks = refl; long = length-set (w₁ .states) i (ofCoupled []) };
-            has = getD-set-same (w₁ .states) i (ofCoupled []) (ofCoupled []) long;
-          }))
-          (λ r h. let both = hand-on a (h .made) in let last = went clock i (r .1) ∷ [] in goes {a = (noted (went clock i (r .1)) (r .0), r .1)} (record {
-            since = both .more ++ last;
-            behind-it = joined (w .log) (both .more) last (r .0 .log) (r .0 .log ++ last) (both .is) refl;
-            handed = comings-append (both .more) last ∙ ap (λ (z : List (ℕ × ℕ × ℕ)). z ++ []) (both .arrives) ∙ append-nil _ ∙ append-nil _;
-            list-after =
-                ap asCoupled (h .has)
-                ∙ sym (newly-append (both .more) last ∙ rw (both .parks, itself-no-part) (append-nil (h .list)));
-          }))))
+    its-event zero w is l = stops tt
+    its-event (suc depth) w is l =
+        event-as depth i w is
+        (ends-bind _ (take-all depth (asCoupled (stateAt (w .states) i)) (parts-of i) w)
+        (λ w₁ a. let long : i < length (w₁ .states) = (let n = a .long in omega arith) in
+        ends-bind {Q = Turned w₁} _
+        (ends-each {P = Part i} (turn t services depth (internal t services depth clock) i) (becomes i (ofCoupled []) w₁, []) (parts-of i) (λ c r p h. turned-on depth c p w₁ long r h)
+        (record {
+          list = [];
+          made = record { more = []; is = sym (append-nil (w₁ .log)); arrives = refl; parks = refl; long = length-set (w₁ .states) i (ofCoupled []) };
+          has = getD-set-same (w₁ .states) i (ofCoupled []) (ofCoupled []) long;
+        }))
+        (λ r h. let both = hand-on a (h .made) in let last = went clock i (r .1) ∷ [] in goes {a = (noted (went clock i (r .1)) (r .0), r .1)} (record {
+          since = both .more ++ last;
+          behind-it = joined (w .log) (both .more) last (r .0 .log) (r .0 .log ++ last) (both .is) refl;
+          handed = comings-append (both .more) last ∙ ap (λ (z : List (ℕ × ℕ × ℕ)). z ++ []) (both .arrives) ∙ append-nil _ ∙ append-nil _;
+          list-after =
+              h .has
+              ∙ ap ofCoupled (sym (newly-append (both .more) last ∙ rw (both .parks, itself-no-part) (append-nil (h .list))));
+        }))))
 
   -- ---- the Coupled i, with `parked` in its list
-  module _ (ok : Fine t) (i : ℕ) (li : i < length (t .rows)) (is : kindAt t i ≡ coupled) (parked : List Parked) (full : parked ≡ [] → ⊥) where
-    -- ---- either it waits for its event, its list as it was, or it has had it
+  module _ (i : ℕ) (li : i < length (t .rows)) (is : kindAt t i ≡ coupled) (parked : List Parked) (full : parked ≡ [] → ⊥) where
+    -- it waits for its event, its list as it was
     record Waits (w : World) : Type 0 where
       list : stateAt (w .states) i ≡ ofCoupled parked
       silent : All (NotItsEvent i) (w .log)
 
-    abbrev Hands : List Happening → Type 0
-    Hands = HandsOver t services clock i parked
+    -- it has had it, and its list is as the event left it
+    record Handled (w : World) : Type 0 where
+      hands : HandsOver t services clock i parked (w .log)
+      list : stateAt (w .states) i ≡ ofCoupled (newly t i (hands .since))
 
-    hands-last : Lasting Hands
-    hands-last = hands-lasts t services clock i parked
+    waits-more : (w z : World) (more : List Happening) → z .log ≡ w .log ++ more → All (NotItsEvent i) more → stateAt (z .states) i ≡ stateAt (w .states) i → Waits w → Waits z
+    waits-more w z more e n s h = record { list = s ∙ h .list; silent = subst (All (NotItsEvent i)) (sym e) (all-append (h .silent) n) }
 
-    abbrev Either : World → Type 0
-    Either w = Waits w ⊎ Hands (w .log)
+    handled-more : (w z : World) (more : List Happening) → z .log ≡ w .log ++ more → All (NotItsEvent i) more → stateAt (z .states) i ≡ stateAt (w .states) i → Handled w → Handled z
+    handled-more w z more e n s r = let h = r .hands in record {
+      hands = record {
+        depth = h .depth;
+        before = h .before;
+        left = h .left;
+        out = h .out;
+        deep-enough = h .deep-enough;
+        event = h .event;
+        held = h .held;
+        its-first = h .its-first;
+        since = h .since;
+        behind-it = h .behind-it;
+        handed = h .handed;
+        list-after = h .list-after;
+        rest = h .rest ++ more;
+        its-last = all-append (h .its-last) n;
+        told = joined (h .left .log) (h .rest) more (w .log) (z .log) (h .told) e;
+      };
+      list = s ∙ r .list;
+    }
 
-    noted-waits : (h : Happening) (w : World) → NotItsEvent i h → Waits w → Waits (noted h w)
-    noted-waits h w n s = record { list = s .list; silent = all-append (s .silent) (n & nil) }
+    -- both are kept by what happens elsewhere
+    abbrev Calm : (World → Type 0) → Type 0
+    Calm X = (w z : World) (more : List Happening) → z .log ≡ w .log ++ more → All (NotItsEvent i) more → stateAt (z .states) i ≡ stateAt (w .states) i → X w → X z
 
-    either-noted : (h : Happening) (w : World) → NotItsEvent i h → Either w → Either (noted h w)
-    either-noted h w n (inl s) = inl (noted-waits h w n s)
-    either-noted h w n (inr q) = inr (hands-last (w .log) (h ∷ []) q)
+    module _ (X : World → Type 0) (calm : Calm X) where
+      calm-put : (k place : ℕ) (s : State) (w : World) → (k ≡ i → ⊥) → X w → X (becomes k s (moved place w))
+      calm-put k place s w apart x = calm w (becomes k s (moved place w)) [] (sym (append-nil (w .log))) nil (set-other k i s (w .states) apart) x
 
-    put-waits : (k place : ℕ) (s : State) (w : World) → (k ≡ i → ⊥) → Waits w → Waits (becomes k s (moved place w))
-    put-waits k place s w apart h = record { list = set-other k i s (w .states) apart ∙ h .list; silent = h .silent }
+      calm-noted : (h : Happening) (w : World) → NotItsEvent i h → X w → X (noted h w)
+      calm-noted h w n x = calm w (noted h w) (h ∷ []) refl (n & nil) refl x
 
-    either-put : (k place : ℕ) (s : State) (w : World) → (k ≡ i → ⊥) → Either w → Either (becomes k s (moved place w))
-    either-put k place s w apart (inl h) = inl (put-waits k place s w apart h)
-    either-put k place s w apart (inr q) = inr q
+      calm-arrives : Arrives t X
+      calm-arrives = record { atom = λ k place s w a x. calm-put k place s w (atom-other t i k is a) x; message = λ clock k port content fate w x. calm-noted (came clock k port content fate) w tt x }
 
-    waits-arrives : Arrives t Waits
-    waits-arrives = record { atom = λ k place s w a h. put-waits k place s w (atom-other t i k is a) h; message = λ clock k port content fate w h. noted-waits (came clock k port content fate) w tt h }
+      elsewhere : (y : ℕ) → y < length (t .rows) → (Under y i → ⊥) → (h : Happening) → Inner y h → NotItsEvent i h
+      elsewhere y l n (came clock k port content fate) b = tt
+      elsewhere y l n (went clock k out) b = λ e. n (subst (Under y) e (below-under l b))
+      elsewhere y l n (waited advance) b = tt
 
-    either-arrives : Arrives t Either
-    either-arrives = record { atom = λ k place s w a h. either-put k place s w (atom-other t i k is a) h; message = λ clock k port content fate w h. either-noted (came clock k port content fate) w tt h }
+      calm-goes : (y : ℕ) → y < length (t .rows) → (Under y i → ⊥) → (w : World) (r : World × List Out) → Goes y w r → X w → X (r .0)
+      calm-goes y l n w r g x =
+          calm w (r .0) (g .more ++ went clock y (r .1) ∷ []) (g .is) (all-append (all-imp (elsewhere y l n) (g .inner)) ((λ e. n (subst (Under y) e top)) & nil)) (g .beside .same i n) x
+
+      turn-calm : (depth k y : ℕ) → (k ≡ i → ⊥) → y < length (t .rows) → (Under y i → ⊥) → (r : World × List Out) → X (r .0) → Ends Whatever (λ r. X (r .0)) (turn t services depth (internal t services depth clock) k y r)
+      turn-calm depth k y apart l n r x =
+          ends-if (due t depth (r .0 .states) y)
+          (λ _. ends-bind _ (internal-goes depth y (r .0) l) (λ z g. hands-keep X k y (λ w list x₁. calm-put k (w .place) (ofCoupled list) w apart x₁) (z .1) (z .0, r .1) (calm-goes y l n (r .0) z g x)))
+          (λ _. goes {a = r} x)
+
+      rootTurn-calm : (y : ℕ) → y < length (t .rows) → (Under y i → ⊥) → (r : World × List Message) → X (r .0) → Ends Whatever (λ r. X (r .0)) (rootTurn t services clock y r)
+      rootTurn-calm y l n r x =
+          ends-if (due t levels (r .0 .states) y)
+          (λ _. ends-bind _ (internal-goes levels y (r .0) l)
+          (λ z g. ends-bind {Q = Whatever} _ (ends-whatever (each (send t clock y) (z .1) (r .1))) (λ sent _. goes {a = (z .0, sent)} (calm-goes y l n (r .0) z g x))))
+          (λ _. goes {a = r} x)
+
+    unpark-waits : (depth k : ℕ) (list : List Parked) (w : World) → Waits w → Ends Whatever Waits (unpark t services (external t services depth clock) k list w)
+    unpark-waits depth k list w h =
+        ends-each {P = Whatever} _ w (all-any (components t (idAt t k)) (λ _. tt))
+        (λ c w₁ _ h₁. ends-each {P = Whatever} _ w₁ (all-any (those (λ (p : Parked). eqb (p .component) (idAt t c)) list) (λ _. tt))
+        (λ p w₂ _ h₂. arriving t services Waits (calm-arrives Waits waits-more) depth clock c (p .port) (p .content) w₂ h₂) h₁) h
 
     -- its own event
     in-states : (w : World) → Waits w → i < length (w .states)
     in-states w h = in-rows (w .states) i (λ e. full (sym (ap asCoupled (h .list)) ∙ e))
 
-    itself : (depth : ℕ) (w : World) → Deep t depth i → Waits w → Ends Whatever (λ r. Hands (r .0 .log)) (internal t services depth clock i w)
-    itself depth w deep h = ends-map (ends-both (ends-known (ends-whatever (internal t services depth clock i w))) (its-event ok i li depth w is (in-states w h))) (λ r b. b) (λ r e. record {
-      depth = depth;
-      before = w;
-      left = r .0;
-      out = r .1;
-      deep-enough = deep;
-      event = e .0;
-      held = ap asCoupled (h .list);
-      its-first = h .silent;
-      since = e .1 .since;
-      behind-it = e .1 .behind-it;
-      handed = e .1 .handed ∙ ap (λ (s : State). handedTo t (asCoupled s) (components t (idAt t i))) (h .list);
-      list-after = e .1 .list-after;
-      rest = [];
-      told = sym (append-nil (r .0 .log));
+    itself : (depth : ℕ) (w : World) → Deep t depth i → Waits w → Ends Whatever (λ r. Handled (r .0)) (internal t services depth clock i w)
+    itself depth w deep h = ends-map (ends-both (ends-known (ends-whatever (internal t services depth clock i w))) (its-event i li depth w is (in-states w h))) (λ r b. b) (λ r e. record {
+      hands = record {
+        depth = depth;
+        before = w;
+        left = r .0;
+        out = r .1;
+        deep-enough = deep;
+        event = e .0;
+        held = ap asCoupled (h .list);
+        its-first = h .silent;
+        since = e .1 .since;
+        behind-it = e .1 .behind-it;
+        handed = e .1 .handed ∙ ap (λ (s : State). handedTo t (asCoupled s) (components t (idAt t i))) (h .list);
+        list-after = ap asCoupled (e .1 .list-after);
+        rest = [];
+        its-last = nil;
+        told = sym (append-nil (r .0 .log));
+      };
+      list = e .1 .list-after;
     })
-
-    -- ---- every other row's event keeps that
-    abbrev Steady : ℕ → Type 0
-    Steady depth = (k : ℕ) (w : World) → Deep t depth k → Either w → Ends Whatever (λ r. Either (r .0)) (internal t services depth clock k w)
-
-    unpark-either : (depth k : ℕ) (list : List Parked) (w : World) → Either w → Ends Whatever Either (unpark t services (external t services depth clock) k list w)
-    unpark-either depth k list w h =
-        ends-each {P = Whatever} _ w (all-any (components t (idAt t k)) (λ _. tt))
-        (λ c w₁ _ h₁. ends-each {P = Whatever} _ w₁ (all-any (those (λ (p : Parked). eqb (p .component) (idAt t c)) list) (λ _. tt)) (λ p w₂ _ h₂. arriving t services Either either-arrives depth clock c (p .port) (p .content) w₂ h₂) h₁) h
-
-    turn-either : (depth k j : ℕ) → Steady depth → Deep t depth j → (k ≡ i → ⊥) → (r : World × List Out) → Either (r .0) → Ends Whatever (λ r. Either (r .0)) (turn t services depth (internal t services depth clock) k j r)
-    turn-either depth k j rec deep apart r h =
-        ends-if (due t depth (r .0 .states) j)
-        (λ _. ends-bind _ (rec j (r .0) deep h) (λ x h₁. hands-keep Either k j (λ w list h₂. either-put k (w .place) (ofCoupled list) w apart h₂) (x .1) (x .0, r .1) h₁))
-        (λ _. goes {a = r} h)
-
-    atom-either : (k place : ℕ) (s : State) (out : List Out) (w : World) → (k ≡ i → ⊥) → Either w → Either (noted (went clock k out) (becomes k s (moved place w)))
-    atom-either k place s out w apart h = either-noted (went clock k out) (becomes k s (moved place w)) apart (either-put k place s w apart h)
-
-    other-as : (kind : Kind) (depth k : ℕ) (w : World) → kindAt t k ≡ kind → Deep t (suc depth) k → Steady depth → (k ≡ i → ⊥) → Either w → Ends Whatever (λ r. Either (r .0)) (internalAs t services kind depth (external t services depth clock) (internal t services depth clock) clock k w)
-    other-as (processor p) depth k w e deep rec apart h =
-        ends-bind _ (ends-whatever (processorInternal services (asProcessor (stateAt (w .states) k)) (w .place)))
-        (λ r _. goes {a = (noted (went clock k (map (outAt (p .output)) (r .2))) (becomes k (ofProcessor (r .0)) (moved (r .1) w)), map (outAt (p .output)) (r .2))} (atom-either k (r .1) (ofProcessor (r .0)) (map (outAt (p .output)) (r .2)) w apart h))
-    other-as (batcher b) depth k w e deep rec apart h =
-        let r = batcherInternal b (asBatcher (stateAt (w .states) k)) in
-        goes {a = (noted (went clock k (map (outAt (b .output)) (r .1))) (becomes k (ofBatcher (r .0)) w), map (outAt (b .output)) (r .1))} (atom-either k (w .place) (ofBatcher (r .0)) (map (outAt (b .output)) (r .1)) w apart h)
-    other-as (stopwatch p) depth k w e deep rec apart h =
-        let r = stopwatchInternal p (asStopwatch (stateAt (w .states) k)) in
-        goes {a = (noted (went clock k (map (outAt (p .output)) (r .1))) (becomes k (ofStopwatch (r .0)) w), map (outAt (p .output)) (r .1))} (atom-either k (w .place) (ofStopwatch (r .0)) (map (outAt (p .output)) (r .1)) w apart h)
-    other-as coupled depth k w e deep rec apart h =
-        ends-bind {Q = Either} _ (unpark-either depth k (asCoupled (stateAt (w .states) k)) w h)
-        (λ w₁ h₁. ends-bind {Q = λ r. Either (r .0)} _
-        (ends-each {P = Deep t depth} (turn t services depth (internal t services depth clock) k) (becomes k (ofCoupled []) w₁, []) (deep e) (λ j r d h₂. turn-either depth k j rec d apart r h₂)
-        (either-put k (w₁ .place) (ofCoupled []) w₁ apart h₁))
-        (λ r h₂. goes {a = (noted (went clock k (r .1)) (r .0), r .1)} (either-noted (went clock k (r .1)) (r .0) apart h₂)))
-
-    same-row : (k : ℕ) → (k ≡ i) ⊎ (k ≡ i → ⊥)
-    same-row k = go (eqb k i) (eqb→eq k i) (λ e. subst (λ (n : ℕ). T (eqb k n)) e (eqb-refl k))
-      where
-        go : (b : Bool) → (T b → k ≡ i) → (k ≡ i → T b) → (k ≡ i) ⊎ (k ≡ i → ⊥)
-        go true f g = inl (f tt)
-        go false f g = inr g
-
-    itself-at : (depth k : ℕ) (w : World) → Deep t depth k → k ≡ i → Waits w → Ends Whatever (λ r. Hands (r .0 .log)) (internal t services depth clock k w)
-    itself-at depth k w deep e h = subst (λ (n : ℕ). Ends Whatever (λ r. Hands (r .0 .log)) (internal t services depth clock n w)) (sym e) (itself depth w (subst (Deep t depth) e deep) h)
-
-    steady : (depth : ℕ) → Steady depth
-    unfolding internal
-    steady zero k w deep h = stops tt
-    steady (suc depth) k w deep (inr q) = ends-map (internal-lasts Hands hands-last (suc depth) k w q) (λ r b. b) (λ r q₁. inr q₁)
-    steady (suc depth) k w deep (inl h) = elim (same-row k) [
-      | inl e ↦ ends-map (itself-at (suc depth) k w deep e h) (λ r b. b) (λ r q. inr q)
-      | inr apart ↦ other-as (kindAt t k) depth k w refl deep (steady depth) apart (inl h)
-    ]
-
-    rootTurn-either : (k : ℕ) → Deep t levels k → (r : World × List Message) → Either (r .0) → Ends Whatever (λ r. Either (r .0)) (rootTurn t services clock k r)
-    rootTurn-either k deep r h =
-        ends-if (due t levels (r .0 .states) k)
-        (λ _. ends-bind _ (steady levels k (r .0) deep h) (λ x h₁. ends-bind {Q = Whatever} _ (ends-whatever (each (send t clock k) (x .1) (r .1))) (λ sent _. goes {a = (x .0, sent)} h₁)))
-        (λ _. goes {a = r} h)
 
     -- ---- it has its turn: while it waits, it and each Coupled around it is due
     module _ (short : T (isWord (length services))) (c : T (isTime clock)) (first-in : Parked) (others : List Parked) (begins : parked ≡ first-in ∷ others) where
       abbrev Fits : World × List Out → Type 0
       Fits = Gone t ok services short NotTwenty Whatever (any-closed t)
 
-      -- where it has not had its event, the row k is due, and its event is that of the Coupled or brings it
+      -- the row k is that Coupled or one around it; it is due, and in its event the Coupled has its own
       abbrev Leads : ℕ → ℕ → Type 0
-      Leads depth k = (w : World) → Good t w → Either w → Hands (w .log) ⊎ (T (due t depth (w .states) k) × Ends Whatever (λ r. Hands (r .0 .log)) (internal t services depth clock k w))
+      Leads depth k = Under k i × ((w : World) → Good t w → Waits w → T (due t depth (w .states) k) × Ends Whatever (λ r. Handled (r .0)) (internal t services depth clock k w))
 
-      leads-itself : (depth k : ℕ) → Deep t (suc depth) k → k ≡ i → Leads (suc depth) k
-      leads-itself depth k deep e w g (inr q) = inl q
-      leads-itself depth k deep e w g (inl h) =
-          inr (
-            subst T (sym (due-parked t ok (w .states) (g .0) depth k first-in others (subst (λ (n : ℕ). stateAt (w .states) n ≡ ofCoupled (first-in ∷ others)) (sym e) (h .list ∙ ap ofCoupled begins)))) tt,
-            itself-at (suc depth) k w deep e h,
-          )
+      leads-itself : (depth : ℕ) → Deep t (suc depth) i → Leads (suc depth) i
+      leads-itself depth deep = (top, λ w g h. (subst T (sym (due-parked t ok (w .states) (g .0) depth i first-in others (h .list ∙ ap ofCoupled begins))) tt, itself (suc depth) w deep h))
 
-      module _ (depth k j : ℕ) (inside : j < length (t .rows)) (couples : kindAt t k ≡ coupled) (within : T (isParent (idAt t k) (rowAt t j .parent))) (deep : Deep t (suc depth) k) (leads : Leads depth j) where
-        component : Among j (components t (idAt t k))
-        component = among (λ j. isParent (idAt t k) (rowAt t j .parent)) 0 (length (t .rows)) (among-all (components t (idAt t k))) j (omega arith) (omega arith) within
+      module _ (depth k j : ℕ) (lk : k < length (t .rows)) (p : Part k j) (couples : kindAt t k ≡ coupled) (deep : Deep t (suc depth) k) (leads : Leads depth j) where
+        around : k ≡ i → ⊥
+        around e = let d = under-deeper (leads .0) in let f = one-deeper k j lk p in let z = ap (depthAt t) e in omega arith
 
-        -- in the turn of that component it has its event, unless it has had it
-        brings : (r : World × List Out) → Good t (r .0) → Either (r .0) → Ends Whatever (λ r. Hands (r .0 .log)) (turn t services depth (internal t services depth clock) k j r)
-        brings r g h = elim (leads (r .0) g h) [
-          | inl q ↦ turn-lasts Hands hands-last depth k j r q
-          | inr l ↦
-              ends-if (due t depth (r .0 .states) j) (λ _. ends-bind _ (l .1) (λ x q. hands-keep (λ w. Hands (w .log)) k j (λ w list q. q) (x .1) (x .0, r .1) q))
-              (λ n. absurd (T-not (due t depth (r .0 .states) j) n (l .0)))
-        ]
+        -- the other components have nothing to do with it
+        not-other : (y : ℕ) → (y ≡ j → ⊥) → Part k y → Under y i → ⊥
+        not-other y n q u = n (under-one u (leads .0) (one-deeper k y lk q ∙ sym (one-deeper k j lk p)))
 
-        event-brings : (w : World) → Good t w → Either w → (k ≡ i → ⊥) → Ends Whatever (λ r. Hands (r .0 .log)) (internal t services (suc depth) clock k w)
-        event-brings w g h apart =
+        brings : (r : World × List Out) → Good t (r .0) → Waits (r .0) → Ends Whatever (λ r. Handled (r .0)) (turn t services depth (internal t services depth clock) k j r)
+        brings r g h =
+            let l = leads .1 (r .0) g h in
+            ends-if (due t depth (r .0 .states) j)
+            (λ _. ends-bind _ (l .1) (λ x q. hands-keep Handled k j (λ w list q₁. calm-put Handled handled-more k (w .place) (ofCoupled list) w around q₁) (x .1) (x .0, r .1) q))
+            (λ n. absurd (T-not (due t depth (r .0 .states) j) n (l .0)))
+
+        event-brings : (w : World) → Good t w → Waits w → Ends Whatever (λ r. Handled (r .0)) (internal t services (suc depth) clock k w)
+        event-brings w g h =
             event-as depth k w couples
             (ends-bind _
-            (ends-both (unpark-either depth k (asCoupled (stateAt (w .states) k)) w h)
+            (ends-both (unpark-waits depth k (asCoupled (stateAt (w .states) k)) w h)
             (unpark-keeps t ok services short NotTwenty Whatever (any-closed t) depth (external t services depth clock) (external-keeps t ok services short NotTwenty Whatever (any-closed t) clock c depth) k w couples deep (g, tt)))
-            (λ w₁ b. ends-bind {Q = λ r. Hands (r .0 .log)} _
-            (ends-meets {K = λ r. Either (r .0) × Fits r} {R = λ r. Hands (r .0 .log)} {P = Deep t depth} (turn t services depth (internal t services depth clock) k) j (becomes k (ofCoupled []) w₁, []) component (deep couples)
-            (λ y r d b₁. ends-both (turn-either depth k y (steady depth) d apart r (b₁ .0)) (turn-keeps t ok services short NotTwenty Whatever (any-closed t) depth k y (internal t services depth clock) r (internal-keeps t ok services short NotTwenty Whatever (any-closed t) clock c depth) d couples (b₁ .1)))
+            (λ w₁ b. ends-bind {Q = λ r. Handled (r .0)} _
+            (ends-once {K = λ r. Waits (r .0) × Fits r} {R = λ r. Handled (r .0)} {P = λ y. Deep t depth y × Part k y} (turn t services depth (internal t services depth clock) k) j (becomes k (ofCoupled []) w₁, [])
+            (once-those (isComponent t k) j 0 (length (t .rows)) (omega arith) (let l = p .0 in omega arith) (p .1)) (all-both (deep couples) (parts-of k))
+            (λ y r n q b₁. ends-both (turn-calm Waits waits-more depth k y around (q .1 .0) (not-other y n (q .1)) r (b₁ .0))
+            (turn-keeps t ok services short NotTwenty Whatever (any-closed t) depth k y (internal t services depth clock) r (internal-keeps t ok services short NotTwenty Whatever (any-closed t) clock c depth) (q .0) couples (b₁ .1)))
             (λ r _ b₁. brings r (b₁ .1 .0 .0) (b₁ .0))
-            (λ y r _ q. turn-lasts Hands hands-last depth k y r q)
-            (either-put k (w₁ .place) (ofCoupled []) w₁ apart (b .0), (((fitted-set k (ofCoupled []) (b .1 .0 .0) (subst (λ (z : Kind). T (stateFits z (ofCoupled []))) (sym couples) tt), b .1 .0 .1), tt), nil)))
-            (λ r q. goes {a = (noted (went clock k (r .1)) (r .0), r .1)} (hands-last (r .0 .log) (went clock k (r .1) ∷ []) q))))
+            (λ y r n q r₁. turn-calm Handled handled-more depth k y around (q .1 .0) (not-other y n (q .1)) r r₁) (
+              calm-put Waits waits-more k (w₁ .place) (ofCoupled []) w₁ around (b .0),
+              (((fitted-set k (ofCoupled []) (b .1 .0 .0) (subst (λ (z : Kind). T (stateFits z (ofCoupled []))) (sym couples) tt), b .1 .0 .1), tt), nil),
+            ))
+            (λ r q. goes {a = (noted (went clock k (r .1)) (r .0), r .1)} (calm-noted Handled handled-more (went clock k (r .1)) (r .0) around q))))
 
         leads-up : Leads (suc depth) k
-        leads-up w g (inr q) = inl q
-        leads-up w g (inl h) = elim (same-row k) [
-          | inl e ↦ leads-itself depth k deep e w g (inl h)
-          | inr apart ↦ elim (leads w g (inl h)) [
-            | inl q ↦ inl q
-            | inr l ↦ inr (due-component t ok (w .states) (g .0) depth k j inside couples within (l .0), event-brings w g (inl h) apart)
-          ]
-        ]
+        leads-up = (under-join lk p (leads .0), λ w g h. (due-component t ok (w .states) (g .0) depth k j (p .0) couples (p .1) (leads .1 w g h .0), event-brings w g h))
 
       -- ---- the turns of the parentless rows
       abbrev Turns : World × List Message → Type 0
-      Turns r = Ends Whatever (λ r. Hands (r .0 .log)) (each (rootTurn t services clock) (parentless t) r)
+      Turns r = Ends Whatever (λ r. Handled (r .0)) (each (rootTurn t services clock) (parentless t) r)
 
-      root-brings : (k : ℕ) → Leads levels k → (r : World × List Message) → Good t (r .0) → Either (r .0) → Ends Whatever (λ r. Hands (r .0 .log)) (rootTurn t services clock k r)
-      root-brings k leads r g h = elim (leads (r .0) g h) [
-        | inl q ↦ rootTurn-lasts Hands hands-last k r q
-        | inr l ↦
-            ends-if (due t levels (r .0 .states) k)
-            (λ _. ends-bind _ (l .1) (λ x q. ends-bind {Q = Whatever} _ (ends-whatever (each (send t clock k) (x .1) (r .1))) (λ sent _. goes {a = (x .0, sent)} q)))
-            (λ n. absurd (T-not (due t levels (r .0 .states) k) n (l .0)))
-      ]
+      abbrev Top : ℕ → Type 0
+      Top k = (k < length (t .rows)) × T (isParentless (rowAt t k .parent))
 
-      turns : (r : World × List Message) → Either (r .0) → Sent t ok services short NotTwenty Whatever (any-closed t) clock c r → Turns r
-      turns r h sent = let found = by-parent t ok Way top down i li in found .1 .1 (leads-itself (found .0) i (found .1 .0) refl)
+      tops : All Top (parentless t)
+      tops = all-those (λ k. isParentless (rowAt t k .parent)) (all-in t ok) (λ k l p. (l, p))
+
+      depth-one : (k : ℕ) → Top k → depthAt t k ≡ 1
+      depth-one k p = ok .top k (tells (parentless-decides (rowAt t k .parent)) (p .1))
+
+      root-brings : (k : ℕ) → Leads levels k → (r : World × List Message) → Good t (r .0) → Waits (r .0) → Ends Whatever (λ r. Handled (r .0)) (rootTurn t services clock k r)
+      root-brings k leads r g h =
+          let l = leads .1 (r .0) g h in
+          ends-if (due t levels (r .0 .states) k)
+          (λ _. ends-bind _ (l .1) (λ x q. ends-bind {Q = Whatever} _ (ends-whatever (each (send t clock k) (x .1) (r .1))) (λ sent _. goes {a = (x .0, sent)} q)))
+          (λ n. absurd (T-not (due t levels (r .0 .states) k) n (l .0)))
+
+      turns : (r : World × List Message) → Waits (r .0) → Sent t ok services short NotTwenty Whatever (any-closed t) clock c r → Turns r
+      turns r h sent = let found = by-parent t ok Way at-top down i li in found .1 .2 (leads-itself (found .0) (found .1 .1))
         where
           Way : ℕ → ℕ → Type 0
-          Way depth k = Deep t depth k × (Leads depth k → Turns r)
+          Way depth k = (k < length (t .rows)) × Deep t depth k × (Leads depth k → Turns r)
 
-          top : (k : ℕ) → k < length (t .rows) → T (isParentless (rowAt t k .parent)) → Way levels k
-          top k l p = (
+          at-top : (k : ℕ) → k < length (t .rows) → T (isParentless (rowAt t k .parent)) → Way levels k
+          at-top k l p = (
+            l,
             among (λ k. isParentless (rowAt t k .parent)) 0 (length (t .rows)) (parentless-deep t ok) k (omega arith) (omega arith) p,
             λ leads.
-                ends-meets {K = λ r. Either (r .0) × Sent t ok services short NotTwenty Whatever (any-closed t) clock c r} {R = λ r. Hands (r .0 .log)} {P = Deep t levels} (rootTurn t services clock) k r
-                (among (λ k. isParentless (rowAt t k .parent)) 0 (length (t .rows)) (among-all (parentless t)) k (omega arith) (omega arith) p) (parentless-deep t ok)
-                (λ y r₁ d b. ends-both (rootTurn-either y d r₁ (b .0)) (rootTurn-keeps t ok services short NotTwenty Whatever (any-closed t) clock c y r₁ d (b .1)))
+                ends-once {K = λ r. Waits (r .0) × Sent t ok services short NotTwenty Whatever (any-closed t) clock c r} {R = λ r. Handled (r .0)} {P = λ y. Deep t levels y × Top y} (rootTurn t services clock) k r
+                (once-those (λ k. isParentless (rowAt t k .parent)) k 0 (length (t .rows)) (omega arith) (omega arith) p) (all-both (parentless-deep t ok) tops)
+                (λ y r₁ n q b. ends-both (rootTurn-calm Waits waits-more y (q .1 .0) (λ u. n (under-one u (leads .0) (depth-one y (q .1) ∙ sym (depth-one k (l, p))))) r₁ (b .0)) (rootTurn-keeps t ok services short NotTwenty Whatever (any-closed t) clock c y r₁ (q .0) (b .1)))
                 (λ r₁ _ b. root-brings k leads r₁ (b .1 .0 .0) (b .0))
-                (λ y r₁ _ q. rootTurn-lasts Hands hands-last y r₁ q)
+                (λ y r₁ n q r₂. rootTurn-calm Handled handled-more y (q .1 .0) (λ u. n (under-one u (leads .0) (depth-one y (q .1) ∙ sym (depth-one k (l, p))))) r₁ r₂)
                 (h, sent),
           )
 
           down : (depth k j : ℕ) → j < length (t .rows) → kindAt t k ≡ coupled → T (isParent (idAt t k) (rowAt t j .parent)) → Way (suc depth) k → Way depth j
           down depth k j l e s way = (
-            among (λ j. isParent (idAt t k) (rowAt t j .parent)) 0 (length (t .rows)) (way .0 e) j (omega arith) (omega arith) s,
-            λ leads. way .1 (leads-up depth k j l e s (way .0) leads),
+            l,
+            among (λ j. isParent (idAt t k) (rowAt t j .parent)) 0 (length (t .rows)) (way .1 e) j (omega arith) (omega arith) s,
+            λ leads. way .2 (leads-up depth k j (way .0) (l, s) e (way .1) leads),
           )
 
 -- ---- the step
@@ -706,7 +716,10 @@ module _ (sim : Simulation) (v : Valid sim) (services : List Float) (short : T (
   no-later a e =
       ends-if (isTime (add binary64 (sim .clock) a)) (λ _. goes (ap (add binary64 (sim .clock)) e ∙ law.later-instant (sim .clock) (v .clock))) (λ _. stops tt)
 
-  step-hands : Ends Whatever (λ r. HandsOver t services (r .0 .clock) i (listOf sim i) (r .1) × (r .0 .clock ≡ sim .clock)) (stepOn t services sim)
+  abbrev Hands : Simulation → List Happening → Type 0
+  Hands next log = (h : HandsOver t services (next .clock) i (listOf sim i) log) × (listOf next i ≡ newly t i (h .since)) × (next .clock ≡ sim .clock)
+
+  step-hands : Ends Whatever (λ r. Hands (r .0) (r .1)) (stepOn t services sim)
   unfolding stepOn
   step-hands =
       ends-bind _
@@ -714,22 +727,22 @@ module _ (sim : Simulation) (v : Valid sim) (services : List Float) (short : T (
       (taken-keeps t ok services short NotTwenty Whatever (any-closed t) (sim .clock) (v .clock) (sim .active) (worldOf sim []) (v .active) ((v .fitted, v .place), tt)))
       (λ w₁ h. ends-bind _ (ends-both (no-advance (sim .active) (w₁ .states) (h .1 .0 .0) (h .0 .list)) (advance-ends {B = Whatever} t ok (sim .active) (w₁ .states) tt (h .1 .0 .0)))
       (λ a u. ends-bind _ (ends-both (no-later a (u .0)) (later-ends {B = Whatever} (sim .clock) a tt))
-      (λ clock e. ends-bind {Q = λ r. HandsOver t services clock i (listOf sim i) (r .0 .log)} _
+      (λ clock e. ends-bind {Q = λ r. Handled t services clock ok i inside (shape .0) (listOf sim i) holds (r .0)} _
       (turns t services clock ok i inside (shape .0) (listOf sim i) holds short (e .1) (full .0) (full .1) (full .2) (allAfter a w₁, [])
-      (inl (record { list = after-at a (w₁ .states) i ∙ ap (after a) (h .0 .list); silent = all-append (h .0 .silent) (tt & nil) }))
+      (record { list = after-at a (w₁ .states) i ∙ ap (after a) (h .0 .list); silent = all-append (h .0 .silent) (tt & nil) })
       (((fitted-after a (w₁ .states) (h .1 .0 .0) (u .1 .0) (u .1 .1), h .1 .0 .1), tt), (nil, omega arith)))
-      (λ r q. goes (q, e .0)))))
+      (λ r q. goes (q .hands, ap asCoupled (q .list), e .0)))))
     where
       taken-waits : (active : List Message) (w : World) → Waits t services (sim .clock) ok i inside (shape .0) (listOf sim i) holds w → Ends Whatever (Waits t services (sim .clock) ok i inside (shape .0) (listOf sim i) holds) (taken t services (sim .clock) active w)
       taken-waits active w h =
           ends-each {P = Whatever} _ w (all-any (parentless t) (λ _. tt))
           (λ k w₁ _ h₁. ends-each {P = Whatever} _ w₁ (all-any (those (λ (m : Message). eqb (m .«target_id») (idAt t k)) active) (λ _. tt))
-          (λ m w₂ _ h₂. arriving t services _ (waits-arrives t services (sim .clock) ok i inside (shape .0) (listOf sim i) holds) levels (sim .clock) k (m .«target_port») (m .content) w₂ h₂) h₁) h
+          (λ m w₂ _ h₂. arriving t services _ (calm-arrives t services (sim .clock) ok i inside (shape .0) (listOf sim i) holds _ (waits-more t services (sim .clock) ok i inside (shape .0) (listOf sim i) holds)) levels (sim .clock) k (m .«target_port») (m .content) w₂ h₂) h₁) h
 
 -- ---- the theorems
--- in the next step that is not refused, the Coupled hands over what is parked in it, and the clock stays
+-- in the next step that is not refused, the Coupled hands over what is parked in it; afterwards its list is what was newly parked, and the clock is what it was
 pub handed-on : (services : List Float) (sim next : Simulation) (log : List Happening) (i : ℕ) → T (isWord (length services)) → T (isValid sim) → (listOf sim i ≡ [] → ⊥) → oneStep services sim ≡ done (next, log)
-    → HandsOver (sim .table) services (next .clock) i (listOf sim i) log × (next .clock ≡ sim .clock)
+    → (h : HandsOver (sim .table) services (next .clock) i (listOf sim i) log) × (listOf next i ≡ newly (sim .table) i (h .since)) × (next .clock ≡ sim .clock)
 handed-on services sim next log i short valid holds e = ends-done (step-hands sim (valid-of sim valid) services short i holds) e
 
 -- a message that is parked for a component is among what comes to it then

@@ -49,7 +49,7 @@ NotItsEvent i (came clock j port content fate) = Unit {0}
 NotItsEvent i (went clock j out) = j ≡ i → ⊥
 NotItsEvent i (waited advance) = Unit {0}
 
--- a log tells of an internal event of the row i at that clock, the first that it tells of, from the world `before` to the world `left`. The list is `parked` before it. What comes to the components in the event is what was parked for them and nothing else, each message once, in 01's order; and what is in the list after it was put out by the components in it.
+-- a log tells of one internal event of the row i, at that clock, from the world `before` to the world `left`. The list is `parked` before it. What comes to the components in the event is what was parked for them and nothing else, each message once, in 01's order; and what is in the list after it was put out by the components in it.
 pub record HandsOver (t : Table) (services : List Float) (clock : Float) (i : ℕ) (parked : List Parked) (log : List Happening) : Type 0 where
   pub depth : ℕ
   pub before : World
@@ -64,4 +64,5 @@ pub record HandsOver (t : Table) (services : List Float) (clock : Float) (i : �
   pub handed : comings t i since ≡ handedTo t parked (components t (idAt t i))
   pub list-after : asCoupled (stateAt (left .states) i) ≡ newly t i since
   pub rest : List Happening
+  pub its-last : All (NotItsEvent i) rest
   pub told : log ≡ left .log ++ rest
