@@ -70,10 +70,6 @@ pub data Among {A : Type 0} (x : A) : List A → Type 0 where
   first : {xs : List A} → Among x (x ∷ xs)
   later : {y : A} {xs : List A} → Among x xs → Among x (y ∷ xs)
 
-pub among-all : {A : Type 0} (xs : List A) → All (λ x. Among x xs) xs
-among-all [] = nil
-among-all (x ∷ xs) = first & all-imp (λ y m. later m) (among-all xs)
-
 pub among-those : {A : Type 0} (test : A → Bool) (x : A) {xs : List A} → Among x xs → T (test x) → Among x (those test xs)
 among-those test x (first {xs = xs}) t = go (test x) t
   where
@@ -189,9 +185,3 @@ ends-each visit s (_&_ {x = x} {xs = xs} g p) k h = ends-bind (each visit xs) (k
 
 pub ends-most : {A : Type 0} {B : Refusal → Type 0} (most : ℕ) (r : Refusal) (xs : List A) → B r → Ends B (λ ys. (ys ≡ xs) × (length ys ≤ most)) (atMost most r xs)
 ends-most most r xs b = ends-if (leb (length xs) most) (λ t. goes (refl, leb→le (length xs) most t)) (λ t. stops b)
-
--- a sweep that comes by x makes R there, which the other visits keep
-pub ends-meets : {A S : Type 0} {B : Refusal → Type 0} {K R : S → Type 0} {P : A → Type 0} (visit : A → S → Outcome S) (x : A) {xs : List A} (s : S) → Among x xs → All P xs
-    → ((y : A) (s : S) → P y → K s → Ends B K (visit y s)) → ((s : S) → P x → K s → Ends B R (visit x s)) → ((y : A) (s : S) → P y → R s → Ends B R (visit y s)) → K s → Ends B R (each visit xs s)
-ends-meets visit x s (first {xs = xs}) (g & p) keeps makes stays h = ends-bind (each visit xs) (makes s g h) (λ s₁ h₁. ends-each visit s₁ p stays h₁)
-ends-meets visit x s (later {y = y} {xs = xs} m) (g & p) keeps makes stays h = ends-bind (each visit xs) (keeps y s g h) (λ s₁ h₁. ends-meets visit x s₁ m p keeps makes stays h₁)
