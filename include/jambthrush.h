@@ -22,6 +22,11 @@
  * max_batch_size 1 that feeds itself: the allowance of jt_step_until is the way out. Nothing ends a step halfway.
  * docs/PROMISES.md, "How long a step can take".
  *
+ * Parked messages. What a component of a Coupled puts out for another one is parked in the Coupled, which is due while it holds
+ * any: the next step hands it over, at the same clock. JT_IDLE says that nothing is parked. A message that its component refuses
+ * refuses every step from then on, until `services` holds what it needs (JT_NO_SERVICE_TIME, JT_BAD_TIME) or another table is
+ * posted or put.
+ *
  * Running on. A run may be cut in parts: a steps and then b more, with the same `services` and with `rows` lent from behind the
  * first part's rows on, are one call with a + b, in state, rows, steps and answer. The answer of the whole is the first part's
  * where that is a refusal, else the second's: asked for no steps, a second part answers 0, but for JT_BAD_STATE, which comes
