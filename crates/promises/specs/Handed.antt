@@ -32,7 +32,7 @@ use Rattle.rules.specs.Arriving.{Arrives, arriving, atom-other, set-other}
 use Rattle.rules.specs.Worlds.{Good, fitted-set, after-at, fitted-after, advance-ends, later-ends, Gone, external-keeps, internal-keeps, unpark-keeps, turn-keeps, Sent, taken-keeps, rootTurn-keeps, worldOf}
 use Rattle.rules.specs.Runs.{Valid, valid-of, is-valid, NotTwenty, any-closed, step-ends}
 use Rattle.rules.specs.Idle.{NoneParked, idle-exactly}
-use Rattle.promises.specs.HandedOver.{listOf, isComponent, comings, handedTo, parkedBy, newly, NotItsEvent, HandsOver}
+use Rattle.promises.specs.HandedOver.{listOf, isComponent, comings, handedTo, parkedBy, newly, NotItsEvent, HandsOver, AsLeft}
 
 -- a row with something parked is one of the rows
 in-rows : (states : List State) (i : ℕ) → (asCoupled (stateAt states i) ≡ [] → ⊥) → i < length states
@@ -72,6 +72,10 @@ all-both : {P Q : ℕ → Type 0} {xs : List ℕ} → All P xs → All Q xs → 
 all-both nil nil = nil
 all-both (p & ps) (q & qs) = (p, q) & all-both ps qs
 
+all-at : {P : ℕ → Type 0} {x : ℕ} {xs : List ℕ} → All P xs → Among x xs → P x
+all-at (p & ps) first = p
+all-at (p & ps) (further a) = all-at ps a
+
 -- a sweep that comes by x once: K before, R from there on
 ends-once : {S : Type 0} {K R : S → Type 0} {P : ℕ → Type 0} (visit : ℕ → S → Outcome S) (x : ℕ) {xs : List ℕ} (s : S) → Once x xs → All P xs
     → ((y : ℕ) (s : S) → (y ≡ x → ⊥) → P y → K s → Ends Whatever K (visit y s)) → ((s : S) → P x → K s → Ends Whatever R (visit x s)) → ((y : ℕ) (s : S) → (y ≡ x → ⊥) → P y → R s → Ends Whatever R (visit y s)) → K s
@@ -92,7 +96,7 @@ module _ (t : Table) (services : List Float) (clock : Float) (ok : Fine t) where
   hands-keep : (X : World → Type 0) (k j : ℕ) → ((w : World) (parked : List Parked) → X w → X (becomes k (ofCoupled parked) w)) → (ms : List Out) (r : World × List Out) → X (r .0) → Ends Whatever (λ r. X (r .0)) (each (hand t services k j) ms r)
   hands-keep X k j put ms r x = ends-each {P = Whatever} (hand t services k j) r (all-any ms (λ _. tt)) (λ m r₁ _ x₁. hand-keeps X k j put m r₁ x₁) x
 
-  -- its internal event, at any depth
+  -- a Coupled's internal event, at any depth
   event-as : {Q : World × List Out → Type 0} (depth k : ℕ) (w : World) → kindAt t k ≡ coupled → Ends Whatever Q (internalAs t services coupled depth (external t services depth clock) (internal t services depth clock) clock k w)
       → Ends Whatever Q (internal t services (suc depth) clock k w)
   unfolding internal
@@ -139,6 +143,12 @@ module _ (t : Table) (services : List Float) (clock : Float) (ok : Fine t) where
   under-one {a} {b} top (part {k = k} v n q) d = absurd (let h = under-deeper v in let e = one-deeper k a n q in omega arith)
   under-one {a} {b} (part {k = k} u m p) top d = absurd (let h = under-deeper u in let e = one-deeper k b m p in omega arith)
   under-one {a} {b} (part {k = k} u m p) (part {k = j} v n q) d = under-one (subst (Under a) (one-parent m n p q) u) v d
+
+  -- of two that a row is under, one is under the other
+  under-chain : {a b r : ℕ} → Under a r → Under b r → depthAt t a ≤ depthAt t b → Under a b
+  under-chain {a} {b} top v d = let h = under-deeper v in let e : depthAt t a ≡ depthAt t b = omega arith in subst (Under a) (under-one top v e) top
+  under-chain {a} {b} (part u m p) top d = part u m p
+  under-chain {a} {b} (part u m p) (part v n q) d = under-chain u (subst (Under b) (one-parent n m q p) v) d
 
   -- ---- an event happens at its row and below it, and changes no other
   abbrev Below : ℕ → ℕ → Type 0
@@ -478,15 +488,20 @@ module _ (t : Table) (services : List Float) (clock : Float) (ok : Fine t) where
       list : stateAt (w .states) i ≡ ofCoupled parked
       silent : All (NotItsEvent i) (w .log)
 
-    -- it has had it, and its list is as the event left it
+    -- it has had it, and it and all that is inside is as the event left it
     record Handled (w : World) : Type 0 where
       hands : HandsOver t services clock i parked (w .log)
       list : stateAt (w .states) i ≡ ofCoupled (newly t i (hands .since))
+      inside : (k : ℕ) → Under i k → stateAt (w .states) k ≡ stateAt (hands .left .states) k
 
-    waits-more : (w z : World) (more : List Happening) → z .log ≡ w .log ++ more → All (NotItsEvent i) more → stateAt (z .states) i ≡ stateAt (w .states) i → Waits w → Waits z
-    waits-more w z more e n s h = record { list = s ∙ h .list; silent = subst (All (NotItsEvent i)) (sym e) (all-append (h .silent) n) }
+    -- both are kept by what happens elsewhere: where no event of the Coupled is told, and the rows F stay as they are
+    abbrev Calm : (ℕ → Type 0) → (World → Type 0) → Type 0
+    Calm F X = (w z : World) (more : List Happening) → z .log ≡ w .log ++ more → All (NotItsEvent i) more → ((k : ℕ) → F k → stateAt (z .states) k ≡ stateAt (w .states) k) → X w → X z
 
-    handled-more : (w z : World) (more : List Happening) → z .log ≡ w .log ++ more → All (NotItsEvent i) more → stateAt (z .states) i ≡ stateAt (w .states) i → Handled w → Handled z
+    waits-more : Calm (λ k. k ≡ i) Waits
+    waits-more w z more e n s h = record { list = s i refl ∙ h .list; silent = subst (All (NotItsEvent i)) (sym e) (all-append (h .silent) n) }
+
+    handled-more : Calm (Under i) Handled
     handled-more w z more e n s r = let h = r .hands in record {
       hands = record {
         depth = h .depth;
@@ -505,50 +520,61 @@ module _ (t : Table) (services : List Float) (clock : Float) (ok : Fine t) where
         its-last = all-append (h .its-last) n;
         told = joined (h .left .log) (h .rest) more (w .log) (z .log) (h .told) e;
       };
-      list = s ∙ r .list;
+      list = s i top ∙ r .list;
+      inside = λ k u. s k u ∙ r .inside k u;
     }
 
-    -- both are kept by what happens elsewhere
-    abbrev Calm : (World → Type 0) → Type 0
-    Calm X = (w z : World) (more : List Happening) → z .log ≡ w .log ++ more → All (NotItsEvent i) more → stateAt (z .states) i ≡ stateAt (w .states) i → X w → X z
-
-    module _ (X : World → Type 0) (calm : Calm X) where
-      calm-put : (k place : ℕ) (s : State) (w : World) → (k ≡ i → ⊥) → X w → X (becomes k s (moved place w))
-      calm-put k place s w apart x = calm w (becomes k s (moved place w)) [] (sym (append-nil (w .log))) nil (set-other k i s (w .states) apart) x
+    module _ (F : ℕ → Type 0) (X : World → Type 0) (calm : Calm F X) where
+      calm-put : (k place : ℕ) (s : State) (w : World) → (F k → ⊥) → X w → X (becomes k s (moved place w))
+      calm-put k place s w apart x = calm w (becomes k s (moved place w)) [] (sym (append-nil (w .log))) nil (λ j f. set-other k j s (w .states) (λ e. apart (subst F (sym e) f))) x
 
       calm-noted : (h : Happening) (w : World) → NotItsEvent i h → X w → X (noted h w)
-      calm-noted h w n x = calm w (noted h w) (h ∷ []) refl (n & nil) refl x
-
-      calm-arrives : Arrives t X
-      calm-arrives = record { atom = λ k place s w a x. calm-put k place s w (atom-other t i k is a) x; message = λ clock k port content fate w x. calm-noted (came clock k port content fate) w tt x }
+      calm-noted h w n x = calm w (noted h w) (h ∷ []) refl (n & nil) (λ j f. refl) x
 
       elsewhere : (y : ℕ) → y < length (t .rows) → (Under y i → ⊥) → (h : Happening) → Inner y h → NotItsEvent i h
       elsewhere y l n (came clock k port content fate) b = tt
       elsewhere y l n (went clock k out) b = λ e. n (subst (Under y) e (below-under l b))
       elsewhere y l n (waited advance) b = tt
 
-      calm-goes : (y : ℕ) → y < length (t .rows) → (Under y i → ⊥) → (w : World) (r : World × List Out) → Goes y w r → X w → X (r .0)
-      calm-goes y l n w r g x =
-          calm w (r .0) (g .more ++ went clock y (r .1) ∷ []) (g .is) (all-append (all-imp (elsewhere y l n) (g .inner)) ((λ e. n (subst (Under y) e top)) & nil)) (g .beside .same i n) x
+      calm-goes : (y : ℕ) → y < length (t .rows) → (Under y i → ⊥) → ((k : ℕ) → F k → Under y k → ⊥) → (w : World) (r : World × List Out) → Goes y w r → X w → X (r .0)
+      calm-goes y l n clear w r g x =
+          calm w (r .0) (g .more ++ went clock y (r .1) ∷ []) (g .is) (all-append (all-imp (elsewhere y l n) (g .inner)) ((λ e. n (subst (Under y) e top)) & nil)) (λ k f. g .beside .same k (clear k f)) x
 
-      turn-calm : (depth k y : ℕ) → (k ≡ i → ⊥) → y < length (t .rows) → (Under y i → ⊥) → (r : World × List Out) → X (r .0) → Ends Whatever (λ r. X (r .0)) (turn t services depth (internal t services depth clock) k y r)
-      turn-calm depth k y apart l n r x =
+      turn-calm : (depth k y : ℕ) → (F k → ⊥) → y < length (t .rows) → (Under y i → ⊥) → ((k : ℕ) → F k → Under y k → ⊥) → (r : World × List Out) → X (r .0) → Ends Whatever (λ r. X (r .0)) (turn t services depth (internal t services depth clock) k y r)
+      turn-calm depth k y apart l n clear r x =
           ends-if (due t depth (r .0 .states) y)
-          (λ _. ends-bind _ (internal-goes depth y (r .0) l) (λ z g. hands-keep X k y (λ w list x₁. calm-put k (w .place) (ofCoupled list) w apart x₁) (z .1) (z .0, r .1) (calm-goes y l n (r .0) z g x)))
+          (λ _. ends-bind _ (internal-goes depth y (r .0) l) (λ z g. hands-keep X k y (λ w list x₁. calm-put k (w .place) (ofCoupled list) w apart x₁) (z .1) (z .0, r .1) (calm-goes y l n clear (r .0) z g x)))
           (λ _. goes {a = r} x)
 
-      rootTurn-calm : (y : ℕ) → y < length (t .rows) → (Under y i → ⊥) → (r : World × List Message) → X (r .0) → Ends Whatever (λ r. X (r .0)) (rootTurn t services clock y r)
-      rootTurn-calm y l n r x =
+      rootTurn-calm : (y : ℕ) → y < length (t .rows) → (Under y i → ⊥) → ((k : ℕ) → F k → Under y k → ⊥) → (r : World × List Message) → X (r .0) → Ends Whatever (λ r. X (r .0)) (rootTurn t services clock y r)
+      rootTurn-calm y l n clear r x =
           ends-if (due t levels (r .0 .states) y)
           (λ _. ends-bind _ (internal-goes levels y (r .0) l)
-          (λ z g. ends-bind {Q = Whatever} _ (ends-whatever (each (send t clock y) (z .1) (r .1))) (λ sent _. goes {a = (z .0, sent)} (calm-goes y l n (r .0) z g x))))
+          (λ z g. ends-bind {Q = Whatever} _ (ends-whatever (each (send t clock y) (z .1) (r .1))) (λ sent _. goes {a = (z .0, sent)} (calm-goes y l n clear (r .0) z g x))))
           (λ _. goes {a = r} x)
+
+    waits-arrives : Arrives t Waits
+    waits-arrives = record {
+      atom = λ k place s w a x. calm-put (λ k. k ≡ i) Waits waits-more k place s w (atom-other t i k is a) x;
+      message = λ clock k port content fate w x. calm-noted (λ k. k ≡ i) Waits waits-more (came clock k port content fate) w tt x;
+    }
+
+    -- what is not around the Coupled has no row of it, if it is no deeper
+    clear-of-it : (y : ℕ) → (Under y i → ⊥) → (k : ℕ) → k ≡ i → Under y k → ⊥
+    clear-of-it y n k e u = n (subst (Under y) e u)
+
+    clear-inside : (y : ℕ) → depthAt t y ≤ depthAt t i → (Under y i → ⊥) → (k : ℕ) → Under i k → Under y k → ⊥
+    clear-inside y d n k u v = n (under-chain v u d)
 
     unpark-waits : (depth k : ℕ) (list : List Parked) (w : World) → Waits w → Ends Whatever Waits (unpark t services (external t services depth clock) k list w)
     unpark-waits depth k list w h =
         ends-each {P = Whatever} _ w (all-any (components t (idAt t k)) (λ _. tt))
         (λ c w₁ _ h₁. ends-each {P = Whatever} _ w₁ (all-any (those (λ (p : Parked). eqb (p .component) (idAt t c)) list) (λ _. tt))
-        (λ p w₂ _ h₂. arriving t services Waits (calm-arrives Waits waits-more) depth clock c (p .port) (p .content) w₂ h₂) h₁) h
+        (λ p w₂ _ h₂. arriving t services Waits waits-arrives depth clock c (p .port) (p .content) w₂ h₂) h₁) h
+
+    -- so its components are as the event left them
+    parts-inside : (w : World) (h : Handled w) (j : ℕ) → Among j (components t (idAt t i)) → stateAt (w .states) j ≡ stateAt (h .hands .left .states) j
+    parts-inside w h j a = h .inside j (part top li (all-at (parts-of i) a))
 
     -- its own event
     in-states : (w : World) → Waits w → i < length (w .states)
@@ -574,6 +600,7 @@ module _ (t : Table) (services : List Float) (clock : Float) (ok : Fine t) where
         told = sym (append-nil (r .0 .log));
       };
       list = e .1 .list-after;
+      inside = λ k u. refl;
     })
 
     -- ---- it has its turn: while it waits, it and each Coupled around it is due
@@ -592,15 +619,21 @@ module _ (t : Table) (services : List Float) (clock : Float) (ok : Fine t) where
         around : k ≡ i → ⊥
         around e = let d = under-deeper (leads .0) in let f = one-deeper k j lk p in let z = ap (depthAt t) e in omega arith
 
+        not-inside : Under i k → ⊥
+        not-inside u = let d = under-deeper (leads .0) in let f = one-deeper k j lk p in let z = under-deeper u in omega arith
+
         -- the other components have nothing to do with it
         not-other : (y : ℕ) → (y ≡ j → ⊥) → Part k y → Under y i → ⊥
         not-other y n q u = n (under-one u (leads .0) (one-deeper k y lk q ∙ sym (one-deeper k j lk p)))
+
+        not-deeper : (y : ℕ) → Part k y → depthAt t y ≤ depthAt t i
+        not-deeper y q = let d = under-deeper (leads .0) in let f = one-deeper k j lk p in let e = one-deeper k y lk q in omega arith
 
         brings : (r : World × List Out) → Good t (r .0) → Waits (r .0) → Ends Whatever (λ r. Handled (r .0)) (turn t services depth (internal t services depth clock) k j r)
         brings r g h =
             let l = leads .1 (r .0) g h in
             ends-if (due t depth (r .0 .states) j)
-            (λ _. ends-bind _ (l .1) (λ x q. hands-keep Handled k j (λ w list q₁. calm-put Handled handled-more k (w .place) (ofCoupled list) w around q₁) (x .1) (x .0, r .1) q))
+            (λ _. ends-bind _ (l .1) (λ x q. hands-keep Handled k j (λ w list q₁. calm-put (Under i) Handled handled-more k (w .place) (ofCoupled list) w not-inside q₁) (x .1) (x .0, r .1) q))
             (λ n. absurd (T-not (due t depth (r .0 .states) j) n (l .0)))
 
         event-brings : (w : World) → Good t w → Waits w → Ends Whatever (λ r. Handled (r .0)) (internal t services (suc depth) clock k w)
@@ -612,14 +645,14 @@ module _ (t : Table) (services : List Float) (clock : Float) (ok : Fine t) where
             (λ w₁ b. ends-bind {Q = λ r. Handled (r .0)} _
             (ends-once {K = λ r. Waits (r .0) × Fits r} {R = λ r. Handled (r .0)} {P = λ y. Deep t depth y × Part k y} (turn t services depth (internal t services depth clock) k) j (becomes k (ofCoupled []) w₁, [])
             (once-those (isComponent t k) j 0 (length (t .rows)) (omega arith) (let l = p .0 in omega arith) (p .1)) (all-both (deep couples) (parts-of k))
-            (λ y r n q b₁. ends-both (turn-calm Waits waits-more depth k y around (q .1 .0) (not-other y n (q .1)) r (b₁ .0))
+            (λ y r n q b₁. ends-both (turn-calm (λ k. k ≡ i) Waits waits-more depth k y around (q .1 .0) (not-other y n (q .1)) (clear-of-it y (not-other y n (q .1))) r (b₁ .0))
             (turn-keeps t ok services short NotTwenty Whatever (any-closed t) depth k y (internal t services depth clock) r (internal-keeps t ok services short NotTwenty Whatever (any-closed t) clock c depth) (q .0) couples (b₁ .1)))
             (λ r _ b₁. brings r (b₁ .1 .0 .0) (b₁ .0))
-            (λ y r n q r₁. turn-calm Handled handled-more depth k y around (q .1 .0) (not-other y n (q .1)) r r₁) (
-              calm-put Waits waits-more k (w₁ .place) (ofCoupled []) w₁ around (b .0),
+            (λ y r n q r₁. turn-calm (Under i) Handled handled-more depth k y not-inside (q .1 .0) (not-other y n (q .1)) (clear-inside y (not-deeper y (q .1)) (not-other y n (q .1))) r r₁) (
+              calm-put (λ k. k ≡ i) Waits waits-more k (w₁ .place) (ofCoupled []) w₁ around (b .0),
               (((fitted-set k (ofCoupled []) (b .1 .0 .0) (subst (λ (z : Kind). T (stateFits z (ofCoupled []))) (sym couples) tt), b .1 .0 .1), tt), nil),
             ))
-            (λ r q. goes {a = (noted (went clock k (r .1)) (r .0), r .1)} (calm-noted Handled handled-more (went clock k (r .1)) (r .0) around q))))
+            (λ r q. goes {a = (noted (went clock k (r .1)) (r .0), r .1)} (calm-noted (Under i) Handled handled-more (went clock k (r .1)) (r .0) around q))))
 
         leads-up : Leads (suc depth) k
         leads-up = (under-join lk p (leads .0), λ w g h. (due-component t ok (w .states) (g .0) depth k j (p .0) couples (p .1) (leads .1 w g h .0), event-brings w g h))
@@ -636,6 +669,13 @@ module _ (t : Table) (services : List Float) (clock : Float) (ok : Fine t) where
 
       depth-one : (k : ℕ) → Top k → depthAt t k ≡ 1
       depth-one k p = ok .top k (tells (parentless-decides (rowAt t k .parent)) (p .1))
+
+      -- another parentless row has nothing to do with it
+      not-there : (k y : ℕ) → Top k → Top y → (y ≡ k → ⊥) → Under k i → Under y i → ⊥
+      not-there k y p q n u v = n (under-one v u (depth-one y q ∙ sym (depth-one k p)))
+
+      top-depth : (k y : ℕ) → Top k → Top y → Under k i → depthAt t y ≤ depthAt t i
+      top-depth k y p q u = let d = under-deeper u in let e = depth-one k p in let f = depth-one y q in omega arith
 
       root-brings : (k : ℕ) → Leads levels k → (r : World × List Message) → Good t (r .0) → Waits (r .0) → Ends Whatever (λ r. Handled (r .0)) (rootTurn t services clock k r)
       root-brings k leads r g h =
@@ -657,9 +697,9 @@ module _ (t : Table) (services : List Float) (clock : Float) (ok : Fine t) where
             λ leads.
                 ends-once {K = λ r. Waits (r .0) × Sent t ok services short NotTwenty Whatever (any-closed t) clock c r} {R = λ r. Handled (r .0)} {P = λ y. Deep t levels y × Top y} (rootTurn t services clock) k r
                 (once-those (λ k. isParentless (rowAt t k .parent)) k 0 (length (t .rows)) (omega arith) (omega arith) p) (all-both (parentless-deep t ok) tops)
-                (λ y r₁ n q b. ends-both (rootTurn-calm Waits waits-more y (q .1 .0) (λ u. n (under-one u (leads .0) (depth-one y (q .1) ∙ sym (depth-one k (l, p))))) r₁ (b .0)) (rootTurn-keeps t ok services short NotTwenty Whatever (any-closed t) clock c y r₁ (q .0) (b .1)))
+                (λ y r₁ n q b. ends-both (rootTurn-calm (λ k. k ≡ i) Waits waits-more y (q .1 .0) (not-there k y (l, p) (q .1) n (leads .0)) (clear-of-it y (not-there k y (l, p) (q .1) n (leads .0))) r₁ (b .0)) (rootTurn-keeps t ok services short NotTwenty Whatever (any-closed t) clock c y r₁ (q .0) (b .1)))
                 (λ r₁ _ b. root-brings k leads r₁ (b .1 .0 .0) (b .0))
-                (λ y r₁ n q r₂. rootTurn-calm Handled handled-more y (q .1 .0) (λ u. n (under-one u (leads .0) (depth-one y (q .1) ∙ sym (depth-one k (l, p))))) r₁ r₂)
+                (λ y r₁ n q r₂. rootTurn-calm (Under i) Handled handled-more y (q .1 .0) (not-there k y (l, p) (q .1) n (leads .0)) (clear-inside y (top-depth k y (l, p) (q .1) (leads .0)) (not-there k y (l, p) (q .1) n (leads .0))) r₁ r₂)
                 (h, sent),
           )
 
@@ -717,7 +757,7 @@ module _ (sim : Simulation) (v : Valid sim) (services : List Float) (short : T (
       ends-if (isTime (add binary64 (sim .clock) a)) (λ _. goes (ap (add binary64 (sim .clock)) e ∙ law.later-instant (sim .clock) (v .clock))) (λ _. stops tt)
 
   abbrev Hands : Simulation → List Happening → Type 0
-  Hands next log = (h : HandsOver t services (next .clock) i (listOf sim i) log) × (listOf next i ≡ newly t i (h .since)) × (next .clock ≡ sim .clock)
+  Hands next log = (h : HandsOver t services (next .clock) i (listOf sim i) log) × (listOf next i ≡ newly t i (h .since)) × AsLeft t i (h .left) next × (next .clock ≡ sim .clock)
 
   step-hands : Ends Whatever (λ r. Hands (r .0) (r .1)) (stepOn t services sim)
   unfolding stepOn
@@ -731,18 +771,18 @@ module _ (sim : Simulation) (v : Valid sim) (services : List Float) (short : T (
       (turns t services clock ok i inside (shape .0) (listOf sim i) holds short (e .1) (full .0) (full .1) (full .2) (allAfter a w₁, [])
       (record { list = after-at a (w₁ .states) i ∙ ap (after a) (h .0 .list); silent = all-append (h .0 .silent) (tt & nil) })
       (((fitted-after a (w₁ .states) (h .1 .0 .0) (u .1 .0) (u .1 .1), h .1 .0 .1), tt), (nil, omega arith)))
-      (λ r q. goes (q .hands, ap asCoupled (q .list), e .0)))))
+      (λ r q. goes (q .hands, ap asCoupled (q .list), parts-inside t services clock ok i inside (shape .0) (listOf sim i) holds (r .0) q, e .0)))))
     where
       taken-waits : (active : List Message) (w : World) → Waits t services (sim .clock) ok i inside (shape .0) (listOf sim i) holds w → Ends Whatever (Waits t services (sim .clock) ok i inside (shape .0) (listOf sim i) holds) (taken t services (sim .clock) active w)
       taken-waits active w h =
           ends-each {P = Whatever} _ w (all-any (parentless t) (λ _. tt))
           (λ k w₁ _ h₁. ends-each {P = Whatever} _ w₁ (all-any (those (λ (m : Message). eqb (m .«target_id») (idAt t k)) active) (λ _. tt))
-          (λ m w₂ _ h₂. arriving t services _ (calm-arrives t services (sim .clock) ok i inside (shape .0) (listOf sim i) holds _ (waits-more t services (sim .clock) ok i inside (shape .0) (listOf sim i) holds)) levels (sim .clock) k (m .«target_port») (m .content) w₂ h₂) h₁) h
+          (λ m w₂ _ h₂. arriving t services _ (waits-arrives t services (sim .clock) ok i inside (shape .0) (listOf sim i) holds) levels (sim .clock) k (m .«target_port») (m .content) w₂ h₂) h₁) h
 
 -- ---- the theorems
--- in the next step that is not refused, the Coupled hands over what is parked in it; afterwards its list is what was newly parked, and the clock is what it was
+-- in the next step that is not refused, the Coupled hands over what is parked in it; after the step its list is what was newly parked, its components are as its event left them, and the clock is what it was
 pub handed-on : (services : List Float) (sim next : Simulation) (log : List Happening) (i : ℕ) → T (isWord (length services)) → T (isValid sim) → (listOf sim i ≡ [] → ⊥) → oneStep services sim ≡ done (next, log)
-    → (h : HandsOver (sim .table) services (next .clock) i (listOf sim i) log) × (listOf next i ≡ newly (sim .table) i (h .since)) × (next .clock ≡ sim .clock)
+    → (h : HandsOver (sim .table) services (next .clock) i (listOf sim i) log) × (listOf next i ≡ newly (sim .table) i (h .since)) × AsLeft (sim .table) i (h .left) next × (next .clock ≡ sim .clock)
 handed-on services sim next log i short valid holds e = ends-done (step-hands sim (valid-of sim valid) services short i holds) e
 
 -- a message that is parked for a component is among what comes to it then

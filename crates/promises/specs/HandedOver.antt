@@ -9,7 +9,7 @@ use Rattle.rules.specs.Base.{done, if_then_else_, those}
 use Rattle.rules.specs.Table.{Table, Target, rowAt, idAt, isParent, components, internals}
 use Rattle.rules.specs.Simulation.{Parked, Simulation, stateAt, asCoupled}
 use Rattle.rules.specs.Step.{Out, Happening, came, went, waited, World, internal}
-use Rattle.rules.specs.Ends.{All}
+use Rattle.rules.specs.Ends.{All, Among}
 use Rattle.rules.specs.Depth.{Deep}
 
 -- what is parked in the row i
@@ -66,3 +66,7 @@ pub record HandsOver (t : Table) (services : List Float) (clock : Float) (i : �
   pub rest : List Happening
   pub its-last : All (NotItsEvent i) rest
   pub told : log ≡ left .log ++ rest
+
+-- the simulation has the components of the row i as they are in that world
+abbrev pub AsLeft : Table → ℕ → World → Simulation → Type 0
+AsLeft t i left next = (j : ℕ) → Among j (components t (idAt t i)) → stateAt (next .states) j ≡ stateAt (left .states) j
