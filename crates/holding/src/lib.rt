@@ -200,7 +200,7 @@ fn kind_number(state: &[u64], row: usize) -> u64
     state[start + 1]
 }
 
-// A processor's capacity: omitted, it is 2^64 - 1.
+// A processor's capacity, as `table` reads it.
 fn capacity_of(state: &[u64], row: usize) -> u64
     requires { ⌜ Inside (now state) × (row < length (tableIn (now state) .rows)) ⌝ }
     ensures { λ r. ⌜ ((model : Processor) → kindAt (tableIn (now (state .entry))) row ≡ Table.processor model → r ≡ model .«queue_capacity») ⌝ }
@@ -209,7 +209,7 @@ fn capacity_of(state: &[u64], row: usize) -> u64
     if state[start + 2] / 2 % 2 == 1 {
         return state[start + 8];
     }
-    0xFFFF_FFFF_FFFF_FFFF
+    rules::OMITTED_CAPACITY
 }
 
 // A row whose own words are to begin at `begin`: where they end, if it fits.

@@ -1,6 +1,6 @@
 -- docs/LAYOUT.md as definitions: from the lent words of a table to its rows, and from messages to the rows of an output. Definitions only. Assumes nothing.
 use Prim.Native.Nat.{ℕ, zero, suc, _*_, _/_, _%_}
-use mathlib.Core.Bool.{Bool}
+use mathlib.Core.Bool.{Bool, not}
 use mathlib.Core.List.{List, [], _∷_, _++_, map}
 use mathlib.Core.Option.{Option, none, some}
 use lib.ListN.{length, getD, take, drop}
@@ -10,7 +10,7 @@ use Rattle.rules.specs.declared.Metric.{Metric}
 use Rattle.rules.specs.declared.Metric.the-variants.{Minimum, Maximum}
 use Rattle.rules.specs.declared.Message.{Message}
 use Rattle.rules.specs.Sizes.{isId, isPort, omittedCapacity}
-use Rattle.rules.specs.Base.{if_then_else_, every, hold, isEmpty}
+use Rattle.rules.specs.Base.{if_then_else_, those, every, hold, isEmpty}
 use Rattle.rules.specs.Table.{Kind, processor, batcher, stopwatch, coupled, Row, Connector, Coupling, externalInput, externalOutput, internalCoupling}
 use Rattle.rules.specs.Intake.{Posted}
 
@@ -36,7 +36,7 @@ isGiven field row = eqb (cell row 2 / field % 2) 1
 abbrev pub parentIn : List ℕ → Option ℕ
 parentIn row = if isGiven 1 row then some (cell row 3) else none
 
--- "omitted, it is 2^64 - 1"
+-- A7 of 02: "Rows that omit `queue_capacity` now get 32"
 abbrev pub capacityIn : List ℕ → ℕ
 capacityIn row = if isGiven 2 row then cell row 8 else omittedCapacity
 
@@ -75,6 +75,14 @@ rowIn row (some kind) =
 
 abbrev pub modelRow : List ℕ → Option Row
 modelRow row = rowIn row (kindIn row)
+
+-- ---- A7 of 02: "the intake reports how many rows omitted the field"
+-- A Processor alone has the field. A row that is cut short, or says fields that there are none of, is no row to read.
+abbrev pub omitsCapacity : List ℕ → Bool
+omitsCapacity row = hold (eqb (length row) modelWidth ∷ eqb (cell row 1) 1 ∷ ltb (cell row 2) 8 ∷ not (isGiven 2 row) ∷ [])
+
+abbrev pub omittedIn : List ℕ → ℕ
+omittedIn models = length (those omitsCapacity (rowsOf modelWidth models))
 
 -- ---- a connector row, of 4 words: source id, source port, target id, target port
 abbrev pub connectorWidth : ℕ

@@ -16,6 +16,7 @@ use Rattle.rules.specs.declared.Metric.the-variants.{Minimum, Maximum}
 use Rattle.rules.specs.declared.Processor.{Processor}
 use Rattle.rules.specs.declared.Batcher.{Batcher}
 use Rattle.rules.specs.declared.Stopwatch.{Stopwatch}
+use Rattle.rules.specs.Sizes.{omittedCapacity}
 use Rattle.rules.specs.Base.{Outcome, refused, done, from}
 use Rattle.rules.specs.Table.{coupled}
 use Rattle.rules.specs.Simulation.{ProcessorState, BatcherState, StopwatchState, Marks, ofProcessor, ofBatcher, ofStopwatch, ofCoupled, fresh}
@@ -65,6 +66,10 @@ pub record Processors : Type 0 where
   pub kept-64th : arrives 100 1 (inWork nearly two) 0 ≡ done (inWork (nearly ++ 9 ∷ []) two, 0, Kept)
   pub no-room : arrives 100 1 (inWork full two) 0 ≡ refused NoQueueRoom
   pub no-room-any : arrives (2 ^ 64 - 1) 1 (inWork full two) 0 ≡ refused NoQueueRoom
+  -- A7 of 02: "Rows that omit `queue_capacity` now get 32, so the 33rd job is dropped where it was kept."
+  pub kept-32nd : arrives omittedCapacity 1 (inWork (from 1 31) two) 0 ≡ done (inWork (from 1 31 ++ 9 ∷ []) two, 0, Kept)
+  pub dropped-33rd : arrives omittedCapacity 1 (inWork (from 1 32) two) 0 ≡ done (inWork (from 1 32) two, 0, Dropped)
+  pub kept-33rd : arrives (2 ^ 64 - 1) 1 (inWork (from 1 32) two) 0 ≡ done (inWork (from 1 32 ++ 9 ∷ []) two, 0, Kept)
   -- 9: "a service time is needed past the end of the list"; 10: "a service time read .. is no time"
   pub no-service : arrives 8 1 (waiting [] never) 2 ≡ refused NoServiceTime
   pub no-service-past : arrives 8 1 (waiting [] never) 3 ≡ refused NoServiceTime
@@ -102,6 +107,9 @@ processors = record {
   kept-64th = refl;
   no-room = refl;
   no-room-any = refl;
+  kept-32nd = refl;
+  dropped-33rd = refl;
+  kept-33rd = refl;
   no-service = refl;
   no-service-past = refl;
   bad-service = refl;

@@ -1,6 +1,7 @@
 -- "Sizes and numbers", refusals 1 to 3 and docs/LAYOUT.md, pinned: each case is computed, and an edit of its sentence breaks it. Assumes nothing.
-use Prim.Native.Nat.{ℕ, _+_, _-_, _^_}
+use Prim.Native.Nat.{ℕ, zero, suc, _+_, _-_, _^_}
 use mathlib.Core.Path.{_≡_, refl}
+use mathlib.Core.Bool.{true, false}
 use mathlib.Core.List.{List, [], _∷_, _++_, map}
 use mathlib.Core.Option.{none, some}
 use lib.ListN.{replicate}
@@ -10,7 +11,7 @@ use Rattle.rules.specs.declared.Metric.the-variants.{Minimum, Maximum}
 use Rattle.rules.specs.Base.{from}
 use Rattle.rules.specs.Table.{Kind, processor, batcher, stopwatch, coupled, Row, Connector, Coupling, externalInput, externalOutput, internalCoupling}
 use Rattle.rules.specs.Intake.{Posted, Verdict, tooLarge, badRow, badConnector, badCoupling, passed, intake, takenIn}
-use Rattle.rules.specs.Layout.{modelRow, connectorRow, couplingRow, lent, written, roomIn, laidDown}
+use Rattle.rules.specs.Layout.{modelRow, omitsCapacity, omittedIn, connectorRow, couplingRow, lent, written, roomIn, laidDown}
 use Rattle.rules.specs.Examples.{ten, minusZero, posted, row, within, aBatcher, aProcessor, aStopwatch, link, message, given, at}
 
 -- ---- what is seen of an intake: 0 where the table passes, else the refusal's number and the row
@@ -303,8 +304,8 @@ pub record Words : Type 0 where
   pub kind-0 : modelRow (words 0 0 (0 ∷ 0 ∷ 0 ∷ 0 ∷ 0 ∷ 0 ∷ 0 ∷ [])) ≡ none
   pub kind-5 : modelRow (words 5 0 (0 ∷ 0 ∷ 0 ∷ 0 ∷ 0 ∷ 0 ∷ 0 ∷ [])) ≡ none
   pub metric-2 : modelRow (words 3 4 (0 ∷ 1 ∷ 2 ∷ 3 ∷ 4 ∷ 2 ∷ 0 ∷ [])) ≡ none
-  -- omitted and given: "omitted, it is 2^64 - 1", "Metric defaults to Minimum", a parent only where it is given; an omitted field is not looked at
-  pub capacity-omitted : modelRow (words 1 0 (0 ∷ 1 ∷ 0 ∷ 0 ∷ 2 ∷ 8 ∷ 0 ∷ [])) ≡ some (row 7 (aProcessor (2 ^ 64 - 1)))
+  -- omitted and given: "Rows that omit `queue_capacity` now get 32", "Metric defaults to Minimum", a parent only where it is given; an omitted field is not looked at
+  pub capacity-omitted : modelRow (words 1 0 (0 ∷ 1 ∷ 0 ∷ 0 ∷ 2 ∷ 8 ∷ 0 ∷ [])) ≡ some (row 7 (aProcessor 32))
   pub metric-omitted : modelRow (words 3 0 (0 ∷ 1 ∷ 2 ∷ 3 ∷ 4 ∷ 2 ∷ 0 ∷ [])) ≡ some (row 7 (aStopwatch Minimum))
   pub parent-given : modelRow (words 4 1 (5 ∷ 0 ∷ 0 ∷ 0 ∷ 0 ∷ 0 ∷ 0 ∷ [])) ≡ some (within 5 7 coupled)
   pub parent-omitted : modelRow (words 4 6 (2 ^ 16 ∷ 0 ∷ 0 ∷ 0 ∷ 0 ∷ 2 ^ 63 ∷ 2 ^ 63 ∷ [])) ≡ some (row 7 coupled)
@@ -312,7 +313,7 @@ pub record Words : Type 0 where
   pub metric-among-all : modelRow (words 3 7 (5 ∷ 1 ∷ 2 ∷ 3 ∷ 4 ∷ 1 ∷ 0 ∷ [])) ≡ some (within 5 7 (aStopwatch Maximum))
   pub metric-with-capacity : modelRow (words 3 6 (5 ∷ 1 ∷ 2 ∷ 3 ∷ 4 ∷ 1 ∷ 0 ∷ [])) ≡ some (row 7 (aStopwatch Maximum))
   pub all-but-metric : modelRow (words 3 3 (5 ∷ 1 ∷ 2 ∷ 3 ∷ 4 ∷ 1 ∷ 0 ∷ [])) ≡ some (within 5 7 (aStopwatch Minimum))
-  pub all-but-capacity : modelRow (words 1 5 (5 ∷ 1 ∷ 0 ∷ 0 ∷ 2 ∷ 8 ∷ 0 ∷ [])) ≡ some (within 5 7 (aProcessor (2 ^ 64 - 1)))
+  pub all-but-capacity : modelRow (words 1 5 (5 ∷ 1 ∷ 0 ∷ 0 ∷ 2 ∷ 8 ∷ 0 ∷ [])) ≡ some (within 5 7 (aProcessor 32))
   pub given-8 : modelRow (words 4 8 (0 ∷ 0 ∷ 0 ∷ 0 ∷ 0 ∷ 0 ∷ 0 ∷ [])) ≡ none
   -- every port cell keeps its width, used by the kind or not
   pub unused-processor-2 : modelRow (words 1 2 (0 ∷ 1 ∷ wide ∷ 0 ∷ 2 ∷ 8 ∷ 0 ∷ [])) ≡ none
@@ -404,4 +405,57 @@ words-read = record {
   room-1 = refl;
   room-2 = refl;
   laid-down = refl;
+}
+
+-- ---- A7 of 02: "the intake reports how many rows omitted the field"
+-- a row with port in 1 and port out 2, and a setting that is not looked at where it is omitted
+abbrev saying : ℕ → ℕ → List ℕ
+saying kind fields = words kind fields (5 ∷ 1 ∷ 0 ∷ 3 ∷ 2 ∷ 8 ∷ 0 ∷ [])
+
+abbrev rowsAlike : ℕ → List ℕ
+rowsAlike zero = []
+rowsAlike (suc k) = saying 1 0 ++ rowsAlike k
+
+pub record Omitting : Type 0 where
+  pub omits : omitsCapacity (saying 1 0) ≡ true
+  -- the other two fields say nothing of it
+  pub omits-but-parent : omitsCapacity (saying 1 1) ≡ true
+  pub omits-but-metric : omitsCapacity (saying 1 4) ≡ true
+  pub omits-but-both : omitsCapacity (saying 1 5) ≡ true
+  pub gives : omitsCapacity (saying 1 2) ≡ false
+  pub gives-all : omitsCapacity (saying 1 7) ≡ false
+  -- other kinds have no such field
+  pub no-kind : omitsCapacity (saying 0 0) ≡ false
+  pub a-batcher : omitsCapacity (saying 2 0) ≡ false
+  pub a-stopwatch : omitsCapacity (saying 3 0) ≡ false
+  pub a-coupled : omitsCapacity (saying 4 0) ≡ false
+  -- no rows to read
+  pub fields-8 : omitsCapacity (saying 1 8) ≡ false
+  pub cut-short : omitsCapacity (7 ∷ 1 ∷ 0 ∷ 0 ∷ 1 ∷ 0 ∷ 0 ∷ 2 ∷ 8 ∷ []) ≡ false
+  pub no-row : omitsCapacity [] ≡ false
+  -- how many
+  pub none-lent : omittedIn [] ≡ 0
+  pub two-omit : omittedIn (saying 1 0 ++ saying 2 0 ++ saying 1 2 ++ saying 1 5 ++ saying 3 0) ≡ 2
+  pub one-is-short : omittedIn (saying 1 0 ++ saying 4 0 ++ 7 ∷ 1 ∷ 0 ∷ 0 ∷ []) ≡ 1
+  pub all-64 : omittedIn (rowsAlike 64) ≡ 64
+
+pub omitting : Omitting
+omitting = record {
+  omits = refl;
+  omits-but-parent = refl;
+  omits-but-metric = refl;
+  omits-but-both = refl;
+  gives = refl;
+  gives-all = refl;
+  no-kind = refl;
+  a-batcher = refl;
+  a-stopwatch = refl;
+  a-coupled = refl;
+  fields-8 = refl;
+  cut-short = refl;
+  no-row = refl;
+  none-lent = refl;
+  two-omit = refl;
+  one-is-short = refl;
+  all-64 = refl;
 }

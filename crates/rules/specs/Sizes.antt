@@ -47,9 +47,9 @@ mostOut = 256
 abbrev pub deepest : ℕ
 deepest = 4
 
--- "`max_batch_size` is 1 to 2^62. `queue_capacity` is any u64; omitted, it is 2^64 - 1."
+-- "`max_batch_size` is 1 to 2^62. `queue_capacity` is any u64; omitted, it is" 32 (A7 of 02: "Rows that omit `queue_capacity` now get 32")
 abbrev pub largestBatch : ℕ
 largestBatch = 2 ^ 62
 
 abbrev pub omittedCapacity : ℕ
-omittedCapacity = 2 ^ 64 - 1
+omittedCapacity = 32

@@ -42,6 +42,9 @@ pub enum Metric {
     Maximum,
 }
 
+// What `queue_capacity` is in a row that omits it (`Sizes.omittedCapacity`).
+pub const OMITTED_CAPACITY: u64 = 32;
+
 // What the rows of the three atoms say: their ports, and their settings, named as in the Rust.
 // A stopwatch is asked for its metric at the port `ask`.
 pub struct Processor {

@@ -214,7 +214,7 @@ fn kind_in(cells: &[u64]) -> Kind
     let input = words::word_at(cells, 4);
     let output = words::word_at(cells, 7);
     if kind == 1 {
-        let capacity = setting_in(cells, 2, 0xFFFF_FFFF_FFFF_FFFF);
+        let capacity = setting_in(cells, 2, rules::OMITTED_CAPACITY);
         return processor_of(input, output, capacity);
     }
     if kind == 2 {
