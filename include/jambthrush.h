@@ -7,6 +7,7 @@
  * - jt_step, jt_step_n, jt_step_until: the steps completed before the refused one stand, in the state and in `rows`, as if
  *   just so many had been asked for; where none was completed, both are as they were. `report` is written by each of these
  *   calls, refused or not: it is a part of the answer. Refused with JT_BAD_STATE, or for `until`, it is 0, 0, JT_END_REFUSED.
+ * - jt_intake writes `report`, refused or not, and nothing else.
  * - every other call: all that was lent is as it was, `report` of jt_get_status, `count` and `time` among it.
  * Where a step is refused after others were completed, these are run a second time to leave them standing, so the call costs
  * them twice; not with JT_IDLE and JT_CLOCK_OVERFLOW, which are decided before a step changes anything.
@@ -82,6 +83,12 @@ enum jt_status {
     JT_STATUS_PARKED = 4         /* how many messages a Coupled has parked */
 };
 
+/* report[0] of jt_intake: the part of the table that the first bad row stands in */
+enum jt_part { JT_NOWHERE = 0, JT_MODELS = 1, JT_CONNECTORS = 2, JT_COUPLINGS = 3 };
+
+/* What queue_capacity is in a processor's row that omits it: the 33rd job is dropped. */
+enum { JT_OMITTED_CAPACITY = 32 };
+
 /* Words of a row: a model, a connector, a coupling, a message. */
 enum { JT_MODEL_WORDS = 10, JT_CONNECTOR_WORDS = 4, JT_COUPLING_WORDS = 6, JT_MESSAGE_WORDS = 6 };
 
@@ -89,6 +96,20 @@ enum { JT_MODEL_WORDS = 10, JT_CONNECTOR_WORDS = 4, JT_COUPLING_WORDS = 6, JT_ME
  * 17286. Every call refuses a shorter buffer with JT_BAD_STATE, and leaves longer ones alone beyond the state's end.
  * 0 where the table is too large: no buffer is too short for it, and jt_post and jt_put refuse it with JT_TOO_LARGE. */
 size_t jt_state_words(size_t models_len, size_t connectors_len, size_t couplings_len);
+
+/* What intake says of a table: 0, JT_TOO_LARGE, JT_BAD_ROW or JT_BAD_COUPLING, as jt_post does. Every call writes `report`:
+ * report[0]: where the first bad row stands (enum jt_part); JT_NOWHERE with 0 and with JT_TOO_LARGE
+ * report[1]: that row, counted from 0; 0 where report[0] is JT_NOWHERE
+ * report[2]: how many processor rows omit queue_capacity, where the table passes; 0 where it does not. */
+uint32_t jt_intake(const uint64_t *models, size_t models_len, const uint64_t *connectors, size_t connectors_len,
+                   const uint64_t *couplings, size_t couplings_len, uint64_t report[3]);
+
+/* For tables written before an omitted queue_capacity meant 32, when it meant 2^64 - 1: each whole processor row that omits it
+ * gets 2^64 - 1 written out (flag 2 in its word 2, and its word 8), and then says what it said. No other word changes; a row
+ * whose word 2 is above 7 is left alone. Any words of any length may be lent. *count is how many rows were written. Answers 0.
+ * A stored state holds its table: jt_write_out_capacity(state + 3, 10 * state[0], &count), where state[0] is at most 64 and
+ * the buffer has that many words and 3 more (docs/LAYOUT.md). */
+uint32_t jt_write_out_capacity(uint64_t *models, size_t models_len, uint64_t *count);
 
 /* A new simulation of a table, written into the state buffer, of which only the length is looked at.
  * JT_BAD_STATE where it is shorter than jt_state_words says; else JT_TOO_LARGE, JT_BAD_ROW or JT_BAD_COUPLING.

@@ -483,7 +483,7 @@ static void test_said_of_refusals(void) {
 enum { DEEPEST = 4 };
 
 static void nested_bench(struct bench *b) {
-    static const uint64_t inner[10] = {DEEPEST + 1, PROCESSOR, PARENT_GIVEN, DEEPEST, 1, 0, 0, 2, 0, 0};
+    static const uint64_t inner[10] = {DEEPEST + 1, PROCESSOR, PARENT_GIVEN | CAPACITY_GIVEN, DEEPEST, 1, 0, 0, 2, UINT64_MAX, 0};
     memset(b, 0, sizeof *b);
     for (uint64_t id = 1; id <= DEEPEST; id++) {
         const uint64_t in[6] = {id, 1, 0, 1, id + 1, 1};

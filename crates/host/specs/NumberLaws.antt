@@ -7,8 +7,13 @@ use lib.Ieee.{Float, binary64, toBits}
 use Rattle.rules.specs.declared.Message.{Message}
 use Rattle.rules.specs.Names.{number}
 use Rattle.rules.specs.Base.{Outcome, refused, done}
+use Rattle.rules.specs.Intake as Intake
+use Rattle.rules.specs.Intake.{takenIn}
 use Rattle.rules.specs.Calls as Calls
 use Rattle.rules.specs.Calls.{Ran}
+use Rattle.table.specs.declared.Verdict.{Verdict}
+use Rattle.table.specs.declared.Verdict.the-variants as verdict
+use Rattle.table.specs.Verdicts.{verdictOf}
 use Rattle.memory.specs.View.{workingNumber, batchingNumber}
 use Rattle.engine.specs.declared.Report.{Report}
 use Rattle.engine.specs.Telling.{endIs}
@@ -22,11 +27,45 @@ use Rattle.simulation.specs.declared.Listing.the-variants as listing
 use Rattle.simulation.specs.declared.Clock.{Clock}
 use Rattle.simulation.specs.declared.Clock.the-variants as clock
 use Rattle.simulation.specs.Answers.{countTold, timeTold}
-use Rattle.host.specs.Numbers.{answerNumber, numberOf, endNumber, endWord, reported, reportAfter, said, statusAfter, countAfter, timeAfter}
+use Rattle.host.specs.Numbers.{answerNumber, numberOf, endNumber, endWord, reported, reportAfter, said, statusAfter, countAfter, timeAfter, intakeSaid}
 
 pub answer-is : {A : Type 0} (o : Outcome A) → answerNumber (answered o) ≡ numberOf o
 answer-is (refused r) = refl
 answer-is (done a) = refl
+
+-- ---- intake: what was answered, and what it is known to be
+abbrev verdictNumber : Verdict → ℕ
+verdictNumber verdict.TooLarge = 1
+verdictNumber (verdict.BadRow row) = 2
+verdictNumber (verdict.BadConnector row) = 3
+verdictNumber (verdict.BadCoupling row) = 3
+verdictNumber verdict.Passed = 0
+
+abbrev verdictWords : ℕ → List ℕ → Verdict → List ℕ
+verdictWords omitted report verdict.TooLarge = reported 0 0 0 report
+verdictWords omitted report (verdict.BadRow row) = reported 1 row 0 report
+verdictWords omitted report (verdict.BadConnector row) = reported 2 row 0 report
+verdictWords omitted report (verdict.BadCoupling row) = reported 3 row 0 report
+verdictWords omitted report verdict.Passed = reported 0 0 omitted report
+
+verdict-number : (v : Intake.Verdict) → verdictNumber (verdictOf v) ≡ numberOf (takenIn v)
+verdict-number Intake.tooLarge = refl
+verdict-number (Intake.badRow row) = refl
+verdict-number (Intake.badConnector row) = refl
+verdict-number (Intake.badCoupling row) = refl
+verdict-number (Intake.passed t) = refl
+
+verdict-words : (omitted : ℕ) (report : List ℕ) (v : Intake.Verdict) → verdictWords omitted report (verdictOf v) ≡ intakeSaid omitted v report
+verdict-words omitted report Intake.tooLarge = refl
+verdict-words omitted report (Intake.badRow row) = refl
+verdict-words omitted report (Intake.badConnector row) = refl
+verdict-words omitted report (Intake.badCoupling row) = refl
+verdict-words omitted report (Intake.passed t) = refl
+
+pub verdict-told : (omitted : ℕ) (report : List ℕ) (v : Intake.Verdict) (told known : Verdict) → told ≡ verdictOf v → told ≡ known
+    → (verdictNumber known ≡ numberOf (takenIn v)) × (verdictWords omitted report known ≡ intakeSaid omitted v report)
+verdict-told omitted report v told known e f =
+    (ap verdictNumber (sym f ∙ e) ∙ verdict-number v, ap (verdictWords omitted report) (sym f ∙ e) ∙ verdict-words omitted report v)
 
 -- ---- a run
 module _ (r : Report) (ran : Ran) (before laid : List ℕ) (h : Reported r ran before laid) where

@@ -7,6 +7,7 @@ use lib.Ieee.{Float, binary64, toBits}
 use Rattle.rules.specs.declared.Message.{Message}
 use Rattle.rules.specs.Names.{number}
 use Rattle.rules.specs.Base.{Outcome, refused, done}
+use Rattle.rules.specs.Intake.{Verdict, tooLarge, badRow, badConnector, badCoupling, passed}
 use Rattle.rules.specs.Calls.{End, Done, Reached, Spent, Refused, Ran, Status, OfProcessor, OfBatcher, Mean, ParkedCount}
 use Rattle.memory.specs.declared.Answer.{Answer}
 use Rattle.memory.specs.declared.Answer.the-variants as answer
@@ -40,6 +41,14 @@ reported steps rows end report = set (set (set report 0 steps) 1 rows) 2 end
 
 abbrev pub reportAfter : List ℕ → Ran → List ℕ
 reportAfter report ran = reported (ran .steps) (length (ran .rows)) (endWord (ran .end)) report
+
+-- A7 of 02: "the intake reports how many rows omitted the field". "report[0] is where the first bad row stands (0 nowhere, 1 models, 2 connectors, 3 couplings; 0 with refusal 1), report[1] that row, counted from 0, report[2] how many Processor rows omitted the field where the table passes, else 0"
+abbrev pub intakeSaid : (omitted : ℕ) → Verdict → List ℕ → List ℕ
+intakeSaid omitted tooLarge report = reported 0 0 0 report
+intakeSaid omitted (badRow row) report = reported 1 row 0 report
+intakeSaid omitted (badConnector row) report = reported 2 row 0 report
+intakeSaid omitted (badCoupling row) report = reported 3 row 0 report
+intakeSaid omitted (passed t) report = reported 0 0 omitted report
 
 -- "what it is (0 processor's phase ..; 1 batcher's phase ..; 2 stopwatch's mean as bits; 3 stopwatch with none complete; 4 parked count) and the value"
 abbrev pub said : (what value : ℕ) → List ℕ → List ℕ

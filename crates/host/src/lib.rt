@@ -8,14 +8,17 @@ use rules::Message;
 use rules::ProcessorPhase;
 use simulation::Clock;
 use simulation::Listing;
+use table::Verdict;
 ghost use mathlib.Core.Path.{_≡_};
-ghost use Rattle.rules.specs.Layout.{roomIn, laidDown};
+ghost use Rattle.rules.specs.Intake.{intake, takenIn};
+ghost use Rattle.rules.specs.Layout.{lent, omittedIn, roomIn, laidDown};
 ghost use Rattle.rules.specs.Calls as Calls;
 ghost use Rattle.memory.specs.View.{workingNumber, batchingNumber};
 ghost use Rattle.engine.specs.Telling.{endIs};
 ghost use Rattle.storing.specs.State.{wordsFor};
+ghost use Rattle.capacities.specs.Migration.{writtenOut};
 ghost use Rattle.storing.specs.Lent.{callIn, left, listed, postIn, putIn, leftAnew, runIn, leftByRun};
-ghost use Rattle.host.specs.Numbers.{answerNumber, numberOf, endNumber, endWord, reported, reportAfter, said, statusAfter, countAfter, timeAfter};
+ghost use Rattle.host.specs.Numbers.{answerNumber, numberOf, endNumber, endWord, reported, reportAfter, said, statusAfter, countAfter, timeAfter, intakeSaid};
 
 // 0, or the refusal's number.
 fn answer_number(answer: Answer) -> u32
@@ -25,6 +28,48 @@ fn answer_number(answer: Answer) -> u32
         Answer::Done => 0,
         Answer::Refused(refusal) => rules::number(refusal),
     }
+}
+
+// Three words of a report, and a number.
+fn place(report: &mut [u64; 3], part: u64, row: usize, omitted: usize, number: u32) -> u32
+    ensures answers { λ r. ⌜ r ≡ number ⌝ }
+    ensures tells { λ _. ⌜ now (report .exit) ≡ reported part row omitted (now (report .entry)) ⌝ }
+{
+    report[0] = part;
+    report[1] = row as u64;
+    report[2] = omitted as u64;
+    number
+}
+
+// Table intake: 0, 1, 2 or 3, with the first bad row, or how many rows omit `queue_capacity`.
+#[no_mangle]
+pub extern "C" fn jt_intake(
+    models: &[u64],
+    connectors: &[u64],
+    couplings: &[u64],
+    report: &mut [u64; 3],
+) -> u32
+    ensures answers { λ r. ⌜ r ≡ numberOf (takenIn (intake (lent (now (models .entry)) (now (connectors .entry)) (now (couplings .entry))))) ⌝ }
+    ensures tells { λ _. ⌜ now (report .exit) ≡ intakeSaid (omittedIn (now (models .entry))) (intake (lent (now (models .entry)) (now (connectors .entry)) (now (couplings .entry)))) (now (report .entry)) ⌝ }
+{
+    match table::intake(models, connectors, couplings) {
+        Verdict::TooLarge => place(report, 0, 0, 0, 1),
+        Verdict::BadRow(row) => place(report, 1, row, 0, 2),
+        Verdict::BadConnector(row) => place(report, 2, row, 0, 3),
+        Verdict::BadCoupling(row) => place(report, 3, row, 0, 3),
+        Verdict::Passed => place(report, 0, 0, capacities::omitted(models), 0),
+    }
+}
+
+// The migration of a table that omits `queue_capacity` and means 2^64 - 1: 0, and how many rows it wrote.
+#[no_mangle]
+pub extern "C" fn jt_write_out_capacity(models: &mut [u64], count: &mut u64) -> u32
+    ensures answers { λ r. ⌜ r ≡ 0 ⌝ }
+    ensures writes { λ _. ⌜ now (models .exit) ≡ writtenOut (now (models .entry)) ⌝ }
+    ensures tells { λ _. ⌜ now (count .exit) ≡ omittedIn (now (models .entry)) ⌝ }
+{
+    *count = capacities::write_out(models) as u64;
+    0
 }
 
 // `post`: 0, 20, 1, 2 or 3, and the state buffer after it.

@@ -70,6 +70,7 @@ fn posted(
             say::verdict(table::intake(rows, links, inner));
         }
         Answer::Done => {
+            say::omitted(capacities::omitted(rows));
             let times = &services[0..used(counts.services, 1, services)];
             let orders = &actions[0..used(counts.actions, 7, actions)];
             begin(&mut state, times, orders, counts.rows);

@@ -1,4 +1,4 @@
-// What the listing writes: lines to standard output, and what is wrong with the file to standard error.
+// What the listing writes: lines to standard output, and to standard error what is wrong with the file or left out in it.
 use bench_file::Expected;
 use rules::Refusal;
 use table::Verdict;
@@ -34,6 +34,18 @@ pub(crate) fn wrong_line(line: u64, expected: Expected) {
     wrong(b": expected ");
     wrong_text(bench_file::expected_text(expected));
     wrong(b"\n");
+}
+
+// How many processor lines omit `queue_capacity`, and what it is in them. Where none does, nothing is said.
+pub(crate) fn omitted(lines: usize) {
+    if lines == 0 {
+        return;
+    }
+    wrong(b"note: processor lines without queue_capacity: ");
+    io::print_decimal(2, lines as u64);
+    wrong(b" (");
+    io::print_decimal(2, rules::OMITTED_CAPACITY);
+    wrong(b" each)\n");
 }
 
 fn name(refusal: Refusal) {
