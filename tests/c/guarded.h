@@ -29,6 +29,13 @@ static struct guarded guarded_new(size_t len) {
     return g;
 }
 
+static inline struct guarded guarded_of(const uint64_t *words, size_t len) {
+    struct guarded g = guarded_new(len);
+    if (len > 0)
+        memcpy(g.words, words, len * sizeof(uint64_t));
+    return g;
+}
+
 static void guarded_check(struct guarded g) {
     for (size_t i = 0; i < MARGIN; i++) {
         CHECK(g.block[i] == CANARY);
