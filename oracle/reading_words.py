@@ -85,7 +85,7 @@ def row_of_kind(words, parent):
     """The row by its kind."""
     kind, given, setting = words[1], words[2], words[8]
     if kind == PROCESSOR:
-        # queue_capacity omitted is 2^64 - 1.
+        # queue_capacity omitted is 32 (A7).
         return ProcessorRow(words[0], parent, words[4], words[7], setting if given & CAPACITY_GIVEN else OMITTED_CAPACITY)
     if kind == BATCHER:
         # max_batch_size is 1 to 2^62; 2: its batch time is no time.

@@ -1,7 +1,7 @@
 """Random cases of the differential runs, each planned from its seed along the reading. They go on past refusals.
 
 short and plain: random calls on random tables. late: times near the largest. burst: connectors and couplings that multiply
-messages, to 64 and 256 and one more. fill: queues filled to 64, 256 injections. parked: messages parked at every depth, often with
+messages, to 32, 64 and 256 and one more. fill: queues filled to 32 and 64, 256 injections. parked: messages parked at every depth, often with
 nothing due beside them (A3). long: rings that run for thousands of steps. large: tables of up to 64 rows. tables: damaged copies of
 good tables. states: damaged copies of good states.
 """
@@ -9,7 +9,7 @@ import math
 import random
 
 from asking import table_lines
-from bursts import burst_table, full_table, large_table, parked_table, ring_table
+from bursts import AROUND_OMITTED, burst_table, full_table, large_table, parked_table, ring_table
 from calling import ALL_ROWS, Case
 from reading import INFINITE, BatcherRow, Message
 from reading_words import (CONNECTOR_WORDS, COUPLING_WORDS, HEAD_WORDS, MESSAGE_WORDS, MODEL_WORDS, table_words, word_of,
@@ -93,9 +93,9 @@ class Trial(Messages):
     def plan_fill(self):
         """Many injections, of contents that differ."""
         self.contents = list(range(1, 400))
-        self.start(full_table(self.random))
+        count = self.random.choice(AROUND_OMITTED + [62, 63, 64, 65, 66, 128, 255, 256, 257, 258])
+        self.start(full_table(self.random, count))
         target = self.tables[-1].rows[0].id if self.happens(0.8) else NO_STATUS
-        count = self.random.choice([62, 63, 64, 65, 66, 128, 255, 256, 257, 258])
         for content in range(1, count + 1):
             self.inject(Message(0, 0, target, 1, 0.0, content))
             if count < 200 and self.happens(0.02):
@@ -183,7 +183,7 @@ class Trial(Messages):
         """post or put of a good table; now and then first with a buffer that is too short for it."""
         in_lines = self.happens(0.3)
         slices = table_words(table, None if in_lines else self.random)
-        lines = table_lines(table) if in_lines else None
+        lines = table_lines(table, omits=True) if in_lines else None
         needed = words_needed(*map(len, slices))
         self.case.buffer(max(needed, self.case.length) + self.random.choice([0, 0, 0, 0, 0, 0, 1, 7, 300]))
         if self.happens(0.05):
