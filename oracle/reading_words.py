@@ -1,13 +1,13 @@
 """The second reading of tables and states as words: which are refused with 1, 2, 3 and 20, and what the others say.
 
-Written from 01, request A7 of 02, docs/LAYOUT.md and, for the depth of a row that is no Coupled, docs/DECISIONS.md. The comments are
-their sentences, some of them shortened. Also, from A7: what intake reports, and how stored tables are written out.
+Written from 01, request A7 of 02, docs/LAYOUT.md and, for the depth of a row that is no Coupled, docs/DECISIONS.md. The comments
+are their sentences, some of them shortened. Also, from A7: what intake reports, and how stored tables are written out.
 """
 import struct
 
-from reading import (INFINITE, MOST_ACTIVE, MOST_HELD, OMITTED_CAPACITY, UNLIMITED_CAPACITY, Batcher, BatcherRow, Connector, Coupled,
-                     CoupledRow, Coupling, Mark, Message, Parked, Processor, ProcessorRow, Refused, Stopwatch, StopwatchRow, Table,
-                     is_time)
+from reading import (INFINITE, MOST_ACTIVE, MOST_HELD, OMITTED_CAPACITY, UNLIMITED_CAPACITY, Batcher, BatcherRow, Connector,
+                     Coupled, CoupledRow, Coupling, Mark, Message, Parked, Processor, ProcessorRow, Refused, Stopwatch,
+                     StopwatchRow, Table, is_time)
 
 MODEL_WORDS, CONNECTOR_WORDS, COUPLING_WORDS, MESSAGE_WORDS, HEAD_WORDS = 10, 4, 6, 6, 4
 MOST_MODELS, MOST_CONNECTORS, MOST_COUPLINGS = 64, 256, 256
