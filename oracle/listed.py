@@ -158,7 +158,7 @@ def omitted_beside_bad_links():
 
 
 def old_states(lister):
-    """States stored before A7, with jobs at an omitted capacity: more than 32 are refused in every call, until it is written out."""
+    """States stored before A7, with jobs at an omitted capacity: with more than 32 refused in every call, until written out."""
     for depth, held, setting in itertools.product(range(3), [0, 1, 31, 32, 33, 34, 40, 63, 64], [0, UNLIMITED_CAPACITY]):
         case, image = old_state(lister, depth, held, setting)
         case.state(image)
@@ -364,6 +364,7 @@ def listed():
     for makes in (one_row, few_rows, links, lengths, omitted, omitted_beside_bad_links):
         for case in lister.cases_of(makes()):
             yield makes.__name__, case
-    for make in (old_states, buffers, outputs, words, sequences, parkings):
+    # Those that lend no service times come first: the oracle keeps a list from case to case.
+    for make in (buffers, outputs, old_states, words, sequences, parkings):
         for case in make(lister):
             yield make.__name__, case

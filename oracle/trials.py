@@ -276,7 +276,7 @@ class Trial(Messages):
         return image, end
 
     def hand_in_old(self):
-        """A state stored before A7, which omits what then had no end: with more than 32 held it is refused, until it is written out."""
+        """A state stored before A7, which omits what then had no end: with more than 32 held refused, until it is written out."""
         case = self.case
         image, _ = self.hand_in()
         for place, row in enumerate(self.simulation.table.rows):
