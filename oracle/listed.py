@@ -129,9 +129,10 @@ def in_both_ways(*slices):
 def omitted():
     """Rows by kind and word 2; every length of a few rows; one of two that omits; components; as many rows as there may be."""
     largest = 2 ** 64 - 1
-    for kind, given, other in itertools.product([*range(6), largest], [*range(10), 2 ** 63, largest], [1, 65536, largest]):
+    kinds, givens = [*range(6), largest], [*range(10), 2 ** 63, largest]
+    for kind, given, other in itertools.product(kinds, givens, [1, OMITTED_CAPACITY, largest]):
         yield from in_both_ways([other, kind, given] + [other] * 7, [], [])
-        yield from in_both_ways([7, kind, given, 7, 1, 2, 3, 4, 1, 0], [], [])
+        yield from in_both_ways([7, kind, given, 7, 1, 2, 3, 4, other, 0], [], [])
     for length in range(32):
         yield from in_both_ways(processors(4)[:length], [], [])
         yield lambda case, length=length: case.table('post', [processors(4), [], []], write_out=length)
