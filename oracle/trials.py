@@ -197,7 +197,7 @@ class Trial(Messages):
             self.tables.append(self.simulation.table)
 
     def some_length(self, models, share):
-        """In that share of the times, how many words of the models are written out: all but now and then."""
+        """In that share of the times, how many words of the models are written out: all of them, at times fewer."""
         if not self.happens(share):
             return None
         return len(models) if self.happens(0.7) else self.random.randint(0, len(models))
