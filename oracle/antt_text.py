@@ -7,7 +7,7 @@ import random
 import re
 
 from asking import bits
-from reading import INFINITE, OMITTED_CAPACITY, BatcherRow, ProcessorRow, StopwatchRow
+from reading import INFINITE, UNLIMITED_CAPACITY, BatcherRow, ProcessorRow, StopwatchRow
 from scripts import RUNS
 
 NAMES = ('inf, full, proc, bat, least, most, coup, link, into, out, inner, job, inject, step, steps, until, '
@@ -126,7 +126,7 @@ def row_text(row):
     """A model row."""
     head = (row.id, row.parent or 0)
     if isinstance(row, ProcessorRow):
-        capacity = 'full' if row.capacity == OMITTED_CAPACITY else str(row.capacity)
+        capacity = 'full' if row.capacity == UNLIMITED_CAPACITY else str(row.capacity)
         return applied('proc', *head, row.input, row.output) + ' ' + capacity
     if isinstance(row, BatcherRow):
         return applied('bat', *head, row.input, row.output, row.maximum, bits(row.batch_time))

@@ -40,10 +40,10 @@ def bits(value):
 # ---- lines of a script
 
 
-def row_line(row):
-    """A model's line."""
+def row_line(row, omits=False):
+    """A model's line; `omits`: a capacity that is the omitted one's is left out."""
     if isinstance(row, ProcessorRow):
-        capacity = '-' if row.capacity == OMITTED_CAPACITY else row.capacity
+        capacity = None if omits and row.capacity == OMITTED_CAPACITY else row.capacity
         words = ['processor', row.id, row.parent, row.input, row.output, capacity]
     elif isinstance(row, BatcherRow):
         time = '0x' + bits(row.batch_time)
@@ -61,9 +61,9 @@ def in_words(values):
     return ' '.join('-' if value is None else str(value) for value in values)
 
 
-def table_lines(table):
-    """The lines of a table."""
-    lines = [row_line(row) for row in table.rows]
+def table_lines(table, omits=False):
+    """The lines of a table. For the Rust no capacity is omitted: what that means to it is not what A7 says."""
+    lines = [row_line(row, omits) for row in table.rows]
     lines += ['connector ' + in_words(connector) for connector in table.connectors]
     return lines + ['coupling ' + in_words(coupling) for coupling in table.couplings]
 

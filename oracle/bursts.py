@@ -1,9 +1,12 @@
 """Tables for the differential runs that random ones seldom are: they multiply messages, fill queues, park, run on or are large."""
-from reading import OMITTED_CAPACITY, BatcherRow, Connector, CoupledRow, Coupling, ProcessorRow, StopwatchRow, Table
+from reading import (OMITTED_CAPACITY, UNLIMITED_CAPACITY, BatcherRow, Connector, CoupledRow, Coupling, ProcessorRow, StopwatchRow,
+                     Table)
 from tables import depths
 
+# How many jobs come where the capacity may be an omitted one (A7): the last of these are dropped there.
+AROUND_OMITTED = list(range(OMITTED_CAPACITY - 1, OMITTED_CAPACITY + 3))
 # How many messages a burst makes: at the limits, one below and one above them.
-GOALS = [63, 64, 65, 66, 127, 128, 129, 255, 256, 257, 258]
+GOALS = AROUND_OMITTED + [63, 64, 65, 66, 127, 128, 129, 255, 256, 257, 258]
 
 
 def split(random):
@@ -13,11 +16,13 @@ def split(random):
     return first, goal // first, goal % first
 
 
-def keeper(random, identity, parent):
-    """A row that keeps what comes on port 1."""
+def keeper(random, identity, parent, jobs=0):
+    """A row that keeps what comes on port 1; where `jobs` are about as many, often one of the omitted capacity."""
+    if jobs in AROUND_OMITTED and random.random() < 0.6:
+        return ProcessorRow(identity, parent, 1, 2, OMITTED_CAPACITY)
     kind = random.choice(['processor', 'batcher', 'stopwatch'])
     if kind == 'processor':
-        return ProcessorRow(identity, parent, 1, 2, random.choice([62, 63, 64, 65, OMITTED_CAPACITY]))
+        return ProcessorRow(identity, parent, 1, 2, random.choice([62, 63, 64, 65, UNLIMITED_CAPACITY, OMITTED_CAPACITY]))
     if kind == 'batcher':
         return BatcherRow(identity, parent, 1, 2, random.choice([1, 2, 63, 64, 65, 66, 2 ** 62]), random.choice([0.0, 1.0, 4.0]))
     return StopwatchRow(identity, parent, *random.choice([(1, 2, 3), (2, 1, 3)]), 2, random.random() < 0.5)
@@ -42,7 +47,7 @@ def burst_on_connectors(random):
     """A batcher feeds two others along many connectors, and these a third model, in one step."""
     first, second, more = split(random)
     rows = [BatcherRow(1, None, 1, 2, 1, 0.0), BatcherRow(2, None, 1, 2, first, 1.0), BatcherRow(3, None, 1, 2, 1, 1.0),
-            keeper(random, 4, None)]
+            keeper(random, 4, None, first * second + more)]
     target = random.choice([4, 4, 99])
     connectors = [Connector(1, 2, 2, 1)] * first + [Connector(1, 2, 3, 1)]
     connectors += [Connector(2, 2, target, 1)] * second + [Connector(3, 2, target, 1)] * more
@@ -55,7 +60,8 @@ def burst_in_coupleds(random):
     inner = rows[-1].id
     first, second, more = split(random)
     rows += [BatcherRow(10, inner, 1, 2, random.choice([first, first, first, 1]), random.choice([0.0, 1.0])),
-             BatcherRow(11, inner, 1, 2, 1, 0.0), keeper(random, 12, inner), keeper(random, 50, None)]
+             BatcherRow(11, inner, 1, 2, 1, 0.0), keeper(random, 12, inner, first * second + more),
+             keeper(random, 50, None, first * second + more)]
     couplings += [Coupling(identity, 'output', identity + 1, 2, None, 2) for identity in range(1, inner)]
     couplings += [Coupling(inner, 'input', None, 1, 11, 1)] + [Coupling(inner, 'input', None, 1, 10, 1)] * first
     ways = [Coupling(inner, 'output', 10, 2, None, 2), Coupling(inner, 'internal', 10, 2, random.choice([12, 12, 98]), 1)]
@@ -65,14 +71,14 @@ def burst_in_coupleds(random):
     return Table(rows, connectors, couplings[:256])
 
 
-def full_table(random):
+def full_table(random, jobs=0):
     """One model that keeps what comes, by itself or inside Coupleds, and another that it feeds."""
     if random.random() < 0.5:
-        rows = [keeper(random, 1, None), keeper(random, 2, None)]
+        rows = [keeper(random, 1, None, jobs), keeper(random, 2, None)]
         return Table(rows, [Connector(1, 2, 2, 1)] * random.choice([0, 1, 1, 4, 5]), [])
     rows, couplings = chain(random, 4)
     inner = rows[-1].id
-    rows += [keeper(random, 10, inner), keeper(random, 11, inner)]
+    rows += [keeper(random, 10, inner, jobs), keeper(random, 11, inner)]
     couplings.append(Coupling(inner, 'input', None, 1, 10, 1))
     couplings += [Coupling(inner, 'internal', 10, 2, 11, 1)] * random.choice([0, 1, 1, 2])
     couplings += [Coupling(identity, 'output', identity + 1 if identity < inner else 10, 2, None, 2)
@@ -104,7 +110,7 @@ def parked_taker(random, identity, parent):
     """A row for which messages are parked."""
     kind = random.random()
     if kind < 0.5:
-        return ProcessorRow(identity, parent, 1, 2, random.choice([0, 1, 2, OMITTED_CAPACITY, OMITTED_CAPACITY]))
+        return ProcessorRow(identity, parent, 1, 2, random.choice([0, 1, 2, OMITTED_CAPACITY, UNLIMITED_CAPACITY]))
     if kind < 0.8:
         return BatcherRow(identity, parent, 1, 2, random.choice([1, 2, 3]), random.choice([0.0, 1.0]))
     return StopwatchRow(identity, parent, *random.choice([(1, 2, 3), (3, 1, 2), (2, 3, 1)]), 2, random.random() < 0.5)
@@ -146,7 +152,7 @@ def large_row(random, identity, rows, stopwatches):
     if kind < 0.15 and depths(rows)[parent] < 4:
         return CoupledRow(identity, parent)
     if kind < 0.55:
-        return ProcessorRow(identity, parent, 1, 2, random.choice([1, 2, 64, OMITTED_CAPACITY]))
+        return ProcessorRow(identity, parent, 1, 2, random.choice([1, 2, 64, OMITTED_CAPACITY, UNLIMITED_CAPACITY]))
     if stopwatches and kind < 0.55 + stopwatches:
         return StopwatchRow(identity, parent, 1, 3, 4, 2, random.random() < 0.5)
     return BatcherRow(identity, parent, 1, 2, random.choice([1, 1, 2, 3]), random.choice([0.0, 0.1, 1.0]))

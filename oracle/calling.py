@@ -11,7 +11,8 @@ import itertools
 
 from asking import ERRORS, bits, in_words, message_lines, simulation_lines, status_lines, table_lines
 from reading import Batcher, Coupled, Processor, Refused
-from reading_words import MESSAGE_WORDS, PHASES, State, all_models, state_words, table_in, words_needed
+from reading_words import (MESSAGE_WORDS, PHASES, State, all_models, intake, state_words, state_written_out, table_in, words_needed,
+                           written_out)
 from watching import Watched
 
 ENDS = {'Done': 0, 'Reached': 1, 'Spent': 2, 'Refused': 3}
@@ -23,6 +24,11 @@ ASK_REFUSED = {5: 1.0, 6: 1.0, 9: 0.5}
 def text_of(lines):
     """Lines as a text."""
     return ''.join(line + '\n' for line in lines)
+
+
+def changes_text(before, after):
+    """The words that are changed, each with its place."""
+    return text_of(f'  {place}: {word}' for place, (kept, word) in enumerate(zip(before, after)) if word != kept)
 
 
 def words_text(words):
@@ -57,6 +63,8 @@ class Case:
         self.room = ALL_ROWS                # of the lent output, in words
         self.calls = collections.Counter()
         self.refusals = []
+        self.intakes = collections.Counter()  # what intake answered
+        self.most_omitted = self.rows_written = 0
         self.steps = self.longest = self.fullest = self.most_active = self.most_parked = 0
 
     # ---- what is lent
@@ -158,8 +166,15 @@ class Case:
 
     # ---- tables
 
-    def table(self, name, slices, lines=None):
-        """post or put, of three slices of words; the C calls may be handed the oracle's lines that say the same."""
+    def table(self, name, slices, lines=None, write_out=None):
+        """post or put, of three slices of words; the C calls may be handed the oracle's lines that say the same.
+
+        Intake is asked before it. `write_out`: how many words of the models are written out first.
+        """
+        self.add_table(slices, lines)
+        if write_out is not None:
+            slices = self.write_out(slices, write_out)
+        self.intake(slices)
         table = None
         refusal = 0
         try:
@@ -173,11 +188,6 @@ class Case:
             self.slices = [list(words) for words in slices]
         except Refused as refused:
             refusal = refused.number
-        if lines:
-            self.lines += lines
-        else:
-            self.lines += [f'{part} {words_text(words)}' for part, words in zip(('models', 'connectors', 'couplings'), slices)
-                           if words]
         shown = 'same\n' if refusal else self.shown()
         self.call(name, name, refusal, '', shown)
         if not refusal and self.asks:
@@ -186,12 +196,54 @@ class Case:
             self.ask(name, shown)
         return refusal
 
-    def ask_words(self, *lengths):
-        """How long a state buffer must be for slices of these lengths. It refuses nothing."""
-        self.lines.append(in_words(('state_words',) + lengths))
-        self.told.append(f'= {words_needed(*lengths)}\n')
+    def add_table(self, slices, lines=None):
+        """The table of the next post or put, as words or as lines that say the same."""
+        if lines:
+            self.lines += lines
+        else:
+            self.lines += [f'{part} {words_text(words)}' for part, words in zip(('models', 'connectors', 'couplings'), slices)
+                           if words]
+
+    def intake(self, slices):
+        """What intake says of the table that was added; it stays."""
+        answer, report = intake(*slices)
+        self.call_stateless('intake', 'intake', f'= {answer} report {in_words(report)}\n')
+        self.intakes[answer] += 1
+        self.most_omitted = max(self.most_omitted, report[2])
+
+    def write_out(self, slices, length):
+        """The migration of so many words of the models that were added. The slices after it."""
+        models = list(slices[0])
+        written, count = written_out(models[:length])
+        written += models[length:]
+        line = 'write_out' if length == len(models) else f'write_out {length}'
+        self.call_stateless(line, 'write_out_capacity', f'= 0 count {count}\n{changes_text(models, written)}')
+        self.rows_written += count
+        return [written, *slices[1:]]
+
+    def write_out_state(self, words=None):
+        """The migration of the table in the state: in the one that the buffer has, or in these words, which were handed in."""
+        if words is None:
+            words = self.image()
+            words += [0] * (self.length - len(words))
+        before = list(words)
+        words[:], count = state_written_out(before)
+        self.call_stateless('write_out_state', 'write_out_capacity', f'= 0 count {count}\n{changes_text(before, words)}')
+        self.rows_written += count
+        # The Rust's models have the capacities that they were made with.
+        self.asks = self.asks and not count
+        self.judge(words)
+
+    def call_stateless(self, line, name, told):
+        """A call that is lent no state, and what the C calls must answer. It refuses nothing that a case counts."""
+        self.lines.append(line)
+        self.told.append(told)
         self.ends.append(len(self.lines))
-        self.calls['state_words'] += 1
+        self.calls[name] += 1
+
+    def ask_words(self, *lengths):
+        """How long a state buffer must be for slices of these lengths."""
+        self.call_stateless(in_words(('state_words',) + lengths), 'state_words', f'= {words_needed(*lengths)}\n')
 
     # ---- calls that are no runs
 

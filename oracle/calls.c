@@ -505,10 +505,15 @@ static uint32_t call_put(struct guarded state, struct guarded models, struct gua
                   begin_of(couplings), couplings.len);
 }
 
-/* The lent slice is as it was; the next table begins anew. */
-static void end_slice(struct guarded slice, struct list *list) {
+/* The lent slice is as it was. */
+static void check_slice(struct guarded slice, const struct list *list) {
     CHECK(same(list->words, slice.words, slice.len));
     guarded_free(slice);
+}
+
+/* And the next table begins anew. */
+static void end_slice(struct guarded slice, struct list *list) {
+    check_slice(slice, list);
     list->len = 0;
 }
 
@@ -550,6 +555,63 @@ static void make_post(void) {
 
 static void make_put(void) {
     lend_table(call_put);
+}
+
+/* The table is asked about as it stands so far, and stays for the next post or put. No state is lent. */
+static void make_intake(void) {
+    struct guarded models = lent(&now.models, now.models.len);
+    struct guarded connectors = lent(&now.connectors, now.connectors.len);
+    struct guarded couplings = lent(&now.couplings, now.couplings.len);
+    struct guarded report = guarded_new(3);
+    tell_answer(jt_intake(begin_of(models), models.len, begin_of(connectors), connectors.len, begin_of(couplings), couplings.len,
+                          report.words));
+    tell_named(" report ", report.words[0]);
+    tell_named(" ", report.words[1]);
+    tell_named(" ", report.words[2]);
+    tell_text("\n");
+    guarded_free(report);
+    check_slice(models, &now.models);
+    check_slice(connectors, &now.connectors);
+    check_slice(couplings, &now.couplings);
+}
+
+/* The migration of `len` words of a list, from `at` on. It is lent these alone, in a block that holds the whole list: each word
+ * that is changed is told with its place in the list, which takes it over, and must be one of those that were lent. */
+static void write_out(struct list *list, size_t at, size_t len) {
+    struct guarded block = lent(list, list->len);
+    struct guarded count = guarded_new(1);
+    tell_answer(jt_write_out_capacity(len == 0 ? NULL : block.words + at, len, count.words));
+    tell_named(" count ", count.words[0]);
+    tell_text("\n");
+    for (size_t i = 0; i < block.len; i++) {
+        if (block.words[i] == list->words[i])
+            continue;
+        CHECK(i >= at && i - at < len);
+        tell_named("  ", i);
+        tell_named(": ", block.words[i]);
+        tell_text("\n");
+        list->words[i] = block.words[i];
+    }
+    guarded_free(count);
+    guarded_free(block);
+}
+
+/* The models of the table as it stands so far: all of their words, or the first LENGTH. */
+static void make_write_out(void) {
+    const char *text = next_text();
+    uint64_t len = text == NULL ? now.models.len : number_in(text);
+    if (len > now.models.len)
+        fail("more than there is", "of models");
+    write_out(&now.models, 0, (size_t)len);
+}
+
+/* The models of the table in the state: words 3 to 3 + 10n, n being word 0; as many as the buffer has, where that is no state. */
+static void make_write_out_state(void) {
+    if (now.state.len < 3)
+        fail("too short", "the buffer");
+    size_t most = now.state.len - 3;
+    uint64_t rows = now.state.words[0];
+    write_out(&now.state, 3, rows > most / JT_MODEL_WORDS ? most : JT_MODEL_WORDS * (size_t)rows);
 }
 
 /* An accepted injection changes the number of messages and the six words after the last of them. */
@@ -739,7 +801,8 @@ static const struct {
     {"reset_messages", make_reset_messages}, {"reset_global_time", make_reset_global_time}, {"lend", take_lend},
     {"state", take_state_words}, {"word", take_word}, {"state_words", make_state_words}, {"processor", take_processor},
     {"batcher", take_batcher}, {"stopwatch", take_stopwatch}, {"coupled", take_coupled}, {"connector", take_connector},
-    {"coupling", take_coupling},
+    {"coupling", take_coupling}, {"intake", make_intake}, {"write_out", make_write_out},
+    {"write_out_state", make_write_out_state},
 };
 
 static void take_line(char *line) {

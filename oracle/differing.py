@@ -8,6 +8,7 @@ import sys
 from calling import text_of
 from listed import listed
 from trials import Trial
+from watching import DROPPED_BY_A7
 
 # The size of a batch: so many cases or lines of them.
 BATCH, BATCH_LINES = 250, 40000
@@ -15,7 +16,8 @@ BATCH, BATCH_LINES = 250, 40000
 PATIENCE, PATIENCE_FOR_ONE = 120, 10
 MOST_MEMORY = 2 ** 30
 GROUPS = {'steps': (0, 1, 3, 10, 30, 100, 1000), 'longest run': (0, 1, 10, 100, 1000, 3000),
-          'fullest queue': (0, 1, 8, 32, 63, 64), 'most messages': (0, 1, 16, 64, 255, 256), 'most parked': (0, 1, 8, 63, 64)}
+          'fullest queue': (0, 1, 8, 32, 33, 63, 64), 'most messages': (0, 1, 16, 64, 255, 256), 'most parked': (0, 1, 8, 63, 64),
+          'most rows that omit a capacity': (0, 1, 2, 8, 63, 64)}
 
 
 class Differs(Exception):
@@ -194,7 +196,8 @@ class Counts:
         self.by['last refusal'][case.refusals[-1] if case.refusals else 'none'] += 1
         self.by['deepest level that took a message'][case.simulation.deepest] += 1
         self.add_parting(case)
-        numbers = (case.steps, case.longest, case.fullest, case.most_active, case.most_parked)
+        self.add_omitted(case)
+        numbers = (case.steps, case.longest, case.fullest, case.most_active, case.most_parked, case.most_omitted)
         for (name, bounds), value in zip(GROUPS.items(), numbers):
             self.by[name][bounds[-1] if value >= bounds[-1] else max(bound for bound in bounds if bound <= value)] += 1
         self.total['cases'] += 1
@@ -203,6 +206,13 @@ class Counts:
         self.total['longest run'] = max(self.total['longest run'], case.longest)
         self.total['steps asked of the oracle'] += case.steps_asked
         self.total['answers of the oracle'] += case.answers_asked
+
+    def add_omitted(self, case):
+        """Counts what A7 has brought: what intake answered, rows written out, jobs that are dropped at 32."""
+        self.by['intake answers'].update(case.intakes)
+        self.total['rows written out'] += case.rows_written
+        self.total[f'cases with {DROPPED_BY_A7}'] += case.simulation.seen[DROPPED_BY_A7] > 0
+        self.total[DROPPED_BY_A7] += case.simulation.seen[DROPPED_BY_A7]
 
     def add_parting(self, case):
         """Counts whether the case leaves the Rust where A3 shows, and what was parked there."""

@@ -1,15 +1,17 @@
 """The short inputs of the differential runs that can be listed: every one of a kind, up to a size, as cases of many calls.
 
 One row with small and odd fields; two and three rows by their ids, parents and kinds; every length of the three slices up to a few
-rows, and around the largest; every length of the state buffer; every length of the output; every word of a state, made odd; every
-short sequence of calls on the smallest tables, and on the smallest in which messages are parked (A3).
+rows, and around the largest; rows that omit their capacity or not, also written out (A7); every length of the state buffer; every
+length of the output; every word of a state, made odd; states stored before A7; every short sequence of calls on the smallest
+tables, and on the smallest in which messages are parked (A3).
 """
 import itertools
 import random
 
 from calling import Case
-from reading import (OMITTED_CAPACITY, BatcherRow, Connector, CoupledRow, Coupling, Message, ProcessorRow, StopwatchRow, Table)
-from reading_words import MESSAGE_WORDS, table_words, words_needed
+from reading import (OMITTED_CAPACITY, UNLIMITED_CAPACITY, BatcherRow, Connector, CoupledRow, Coupling, Message, ProcessorRow,
+                     StopwatchRow, Table)
+from reading_words import CAPACITY_GIVEN, MESSAGE_WORDS, MODEL_WORDS, table_words, words_needed
 from trials import ODD_WORDS
 
 # Calls of a case, about.
@@ -108,6 +110,100 @@ def lengths():
     around = [0, 1, 9, 10, 11, 639, 640, 641, 2 ** 60], [0, 1, 1023, 1024, 1025, 2 ** 63], [0, 5, 6, 1536, 1537]
     for lens in itertools.product(*around):
         yield lambda case, lens=lens: case.ask_words(*lens)
+
+
+# ---- omitted capacities (A7)
+
+
+def processors(count, given=0):
+    """The words of so many Processor rows, of ids 1 and on, with this word 2."""
+    return [word for place in range(1, count + 1) for word in [place, 1, given, 0, 1, 0, 0, 2, 5, 6]]
+
+
+def in_both_ways(*slices):
+    """A post of three slices, as they are and written out."""
+    yield poster(*slices)
+    yield lambda case: case.table('post', slices, write_out=len(slices[0]))
+
+
+def omitted():
+    """Rows by kind and word 2; every length of a few rows; one of two that omits; components; as many rows as there may be."""
+    largest = 2 ** 64 - 1
+    kinds, givens = [*range(6), largest], [*range(10), 2 ** 63, largest]
+    for kind, given, other in itertools.product(kinds, givens, [1, OMITTED_CAPACITY, largest]):
+        yield from in_both_ways([other, kind, given] + [other] * 7, [], [])
+        yield from in_both_ways([7, kind, given, 7, 1, 2, 3, 4, other, 0], [], [])
+    for length in range(32):
+        yield from in_both_ways(processors(4)[:length], [], [])
+        yield lambda case, length=length: case.table('post', [processors(4), [], []], write_out=length)
+    for first, second in itertools.product(range(9), repeat=2):
+        coupled, beside = [1, 4, 0, 0, 1, 2, 3, 4, 0, 0], [3, 1, second, 1, 1, 0, 0, 2, 5, 6]
+        yield from in_both_ways(coupled + [2, 1, first, 1, 1, 0, 0, 2, 5, 6] + beside, [], [])
+    for count, given in itertools.product([62, 63, 64, 65, 66, 130], [0, 2, 4]):
+        yield from in_both_ways(processors(count, given), [], [])
+    yield from in_both_ways(processors(3) + processors(1), [], [])
+
+
+def omitted_beside_bad_links():
+    """Rows that omit, and a connector or coupling that is bad, at each place: nothing is reported of the rows."""
+    models = processors(3) + [9, 4, 0, 0, 0, 0, 0, 0, 0, 0] + [10, 1, 1, 9, 1, 0, 0, 2, 0, 0]
+    connectors, couplings = [1, 2, 2, 1] * 4, [9, 1, 0, 1, 10, 1] * 4
+    for place, bad in itertools.product(range(16), [65535, 65536, 2 ** 64 - 1]):
+        yield from in_both_ways(models, connectors[:place] + [bad] + connectors[place + 1:], couplings)
+    for place, bad in itertools.product(range(24), [0, 2, 4, 65536]):
+        yield from in_both_ways(models, connectors, couplings[:place] + [bad] + couplings[place + 1:])
+    for lens in itertools.product(range(8, 13), range(12, 19)):
+        yield from in_both_ways(models, connectors[:lens[0]], couplings[:lens[1]])
+    yield from in_both_ways(models, [1, 2, 65536, 1], [9, 1, 0, 1, 1, 1])
+    yield from in_both_ways(models[:-1], [1, 2, 65536, 1], [9, 1, 0, 1, 1, 1])
+
+
+def old_states(lister):
+    """States stored before A7, with jobs at an omitted capacity: with more than 32 refused in every call, until written out."""
+    for depth, held, setting in itertools.product(range(3), [0, 1, 31, 32, 33, 34, 40, 63, 64], [0, UNLIMITED_CAPACITY]):
+        case, image = old_state(lister, depth, held, setting)
+        case.state(image)
+        case.run('step_n', 0)
+        if case.slices is None:
+            case.lend(case.length)
+            every_call(case)
+            case.write_out_state(image)
+        else:
+            feed(case)
+            case.write_out_state()
+        case.run('step_n', 0)
+        feed(case)
+        case.lend(case.length)
+        every_call(case)
+        yield case
+
+
+def old_state(lister, depth, held, setting):
+    """A case, and the words of a state in which a processor, in so many Coupleds, holds so many jobs and omits its capacity."""
+    rows = [CoupledRow(place, place - 1 or None) for place in range(1, depth + 1)]
+    rows.append(ProcessorRow(depth + 1, depth or None, 1, 2, UNLIMITED_CAPACITY))
+    couplings = [Coupling(place, 'input', None, 1, place + 1, 1) for place in range(1, depth + 1)]
+    slices = table_words(Table(rows, [], couplings))
+    case = lister.case()
+    case.services([4.0, 5.0, 6.0])
+    case.buffer(words_needed(*map(len, slices)) + 5)
+    case.table('post', slices)
+    for content in range(1, held + 1):
+        case.inject(Message(0, 0, 1, 1, 0.0, content))
+    case.run('step')
+    case.asks = False
+    image = case.image()
+    image += [0] * (case.length - len(image))
+    image[3 + MODEL_WORDS * depth + 2] -= CAPACITY_GIVEN
+    image[3 + MODEL_WORDS * depth + 8] = setting
+    return case, image
+
+
+def feed(case):
+    """One job more, and a step."""
+    case.inject(Message(0, 0, 1, 1, 0.0, 99))
+    case.run('step')
+    case.reset('reset_messages')
 
 
 # ---- lengths of buffers
@@ -266,9 +362,10 @@ def parkings(lister):
 def listed():
     """All of them, with their kinds."""
     lister = Lister()
-    for makes in (one_row, few_rows, links, lengths):
+    for makes in (one_row, few_rows, links, lengths, omitted, omitted_beside_bad_links):
         for case in lister.cases_of(makes()):
             yield makes.__name__, case
-    for make in (buffers, outputs, words, sequences, parkings):
+    # Those that lend no service times come first: the oracle keeps a list from case to case.
+    for make in (buffers, outputs, old_states, words, sequences, parkings):
         for case in make(lister):
             yield make.__name__, case

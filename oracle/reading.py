@@ -1,9 +1,9 @@
 """A second reading of the rules of docs 01, sentence after sentence, to be held against the published Rust.
 
-It is written from 01 and, where that amends it, from request A3 of 02. The comments are 01's sentences, some of
-them shortened; what 02 has changed is marked "A3". A lent output is here the number of rows that it has room
-for (13). Left to reading_words.py: the checks of a table (refusals 1, 2
-and 3: a table handed in here keeps the rules) and of states that are handed in (20).
+It is written from 01 and, where they amend it, from requests A3 and A7 of 02. The comments are 01's sentences,
+some of them shortened; what 02 has changed is marked "A3" or "A7". A lent output is here the number of rows that
+it has room for (13). Left to reading_words.py: the checks of a table (refusals 1, 2 and 3: a table handed in here
+keeps the rules) and of states that are handed in (20), and what A7 says of rows that omit a field.
 """
 import math
 from typing import NamedTuple, Optional
@@ -17,8 +17,12 @@ MOST_HELD = 64
 MOST_PARKED = 64
 MOST_OUT = 256
 
-# "queue_capacity is any u64; omitted, it is 2^64 - 1."
-OMITTED_CAPACITY = 2 ** 64 - 1
+# "queue_capacity is any u64"; omitted, by A7: "Rows that omit `queue_capacity` now get 32, so the 33rd job is
+# dropped where it was kept."
+OMITTED_CAPACITY = 32
+# A7: "Stored tables that relied on the old reading, ours and the desk's, get 2^64 - 1 written out". No queue is as
+# long: such a processor drops nothing, and refuses with 7.
+UNLIMITED_CAPACITY = 2 ** 64 - 1
 
 
 class Refused(Exception):

@@ -1,18 +1,22 @@
 """The second reading of tables and states as words: which are refused with 1, 2, 3 and 20, and what the others say.
 
-Written from 01, docs/LAYOUT.md and, for the depth of a row that is no Coupled, docs/DECISIONS.md. The comments are their sentences,
-some of them shortened.
+Written from 01, request A7 of 02, docs/LAYOUT.md and, for the depth of a row that is no Coupled, docs/DECISIONS.md. The comments
+are their sentences, some of them shortened. Also, from A7: what intake reports, and how stored tables are written out.
 """
 import struct
 
-from reading import (INFINITE, MOST_ACTIVE, MOST_HELD, OMITTED_CAPACITY, Batcher, BatcherRow, Connector, Coupled, CoupledRow,
-                     Coupling, Mark, Message, Parked, Processor, ProcessorRow, Refused, Stopwatch, StopwatchRow, Table, is_time)
+from reading import (INFINITE, MOST_ACTIVE, MOST_HELD, OMITTED_CAPACITY, UNLIMITED_CAPACITY, Batcher, BatcherRow, Connector,
+                     Coupled, CoupledRow, Coupling, Mark, Message, Parked, Processor, ProcessorRow, Refused, Stopwatch,
+                     StopwatchRow, Table, is_time)
 
 MODEL_WORDS, CONNECTOR_WORDS, COUPLING_WORDS, MESSAGE_WORDS, HEAD_WORDS = 10, 4, 6, 6, 4
 MOST_MODELS, MOST_CONNECTORS, MOST_COUPLINGS = 64, 256, 256
 DEEPEST_COUPLED = 4
 PROCESSOR, BATCHER, STOPWATCH, COUPLED = 1, 2, 3, 4
 PARENT_GIVEN, CAPACITY_GIVEN, METRIC_GIVEN = 1, 2, 4
+MOST_GIVEN = 7
+# Where a bad row stands, as intake reports it.
+NOWHERE, IN_MODELS, IN_CONNECTORS, IN_COUPLINGS = range(4)
 COUPLING_KINDS = {1: 'input', 2: 'output', 3: 'internal'}
 PHASES = {Processor: ['Passive', 'Active'], Batcher: ['Passive', 'Batching', 'Release'], Stopwatch: ['Passive', 'JobFetch']}
 KIND_OF_ROW = {ProcessorRow: PROCESSOR, BatcherRow: BATCHER, StopwatchRow: STOPWATCH, CoupledRow: COUPLED}
@@ -41,22 +45,40 @@ def rows_in(words, width):
 # ---- intake
 
 
+class BadRow(Refused):
+    """A refusal of intake with its place: where the first bad row stands, and which it is there, counted from 0."""
+
+    def __init__(self, number, place):
+        super().__init__(number)
+        self.place = place
+
+
 def table_in(models, connectors, couplings):
     """The table of three lent slices. Intake checks 1, then 2 in row order, then 3."""
     slices = [rows_in(models, MODEL_WORDS), rows_in(connectors, CONNECTOR_WORDS), rows_in(couplings, COUPLING_WORDS)]
     # 1: a table has too many rows, one cut short counted.
     if any(len(rows) > most for rows, most in zip(slices, (MOST_MODELS, MOST_CONNECTORS, MOST_COUPLINGS))):
         raise Refused(1)
+    rows = read_rows(IN_MODELS, slices[0], model_row)
+    links = read_rows(IN_CONNECTORS, slices[1], lambda words, _: connector_row(words))
+    return Table(rows, links, read_rows(IN_COUPLINGS, slices[2], lambda words, _: coupling_row(words, rows)))
+
+
+def read_rows(where, slice_rows, read):
+    """The rows of a slice, each read after those before it. The first that breaks is the bad one."""
     rows = []
-    for words in slices[0]:
-        rows.append(model_row(words, rows))
-    return Table(rows, [connector_row(words) for words in slices[1]], [coupling_row(words, rows) for words in slices[2]])
+    for place, words in enumerate(slice_rows):
+        try:
+            rows.append(read(words, rows))
+        except Refused as refused:
+            raise BadRow(refused.number, (where, place)) from None
+    return rows
 
 
 def model_row(words, before):
     """A model row, after the rows before it. 2: it breaks a rule."""
     # A row cut short breaks; every id and port cell is below 2^16, unused ones too; word 2 above 7 breaks the row.
-    if len(words) < MODEL_WORDS or not narrow(words[:1] + words[4:8]) or words[2] > 7:
+    if len(words) < MODEL_WORDS or not narrow(words[:1] + words[4:8]) or words[2] > MOST_GIVEN:
         raise Refused(2)
     # Ids are unique over the whole table.
     if any(row.id == words[0] for row in before):
@@ -85,7 +107,7 @@ def row_of_kind(words, parent):
     """The row by its kind."""
     kind, given, setting = words[1], words[2], words[8]
     if kind == PROCESSOR:
-        # queue_capacity omitted is 2^64 - 1.
+        # queue_capacity omitted is 32 (A7).
         return ProcessorRow(words[0], parent, words[4], words[7], setting if given & CAPACITY_GIVEN else OMITTED_CAPACITY)
     if kind == BATCHER:
         # max_batch_size is 1 to 2^62; 2: its batch time is no time.
@@ -126,6 +148,46 @@ def coupling_row(words, rows):
         raise Refused(3)
     return Coupling(owner, kind, None if kind == 'input' else source, source_port,
                     None if kind == 'output' else target, target_port)
+
+
+# ---- rows that omit the capacity (A7)
+
+
+def omits_capacity(words):
+    """Whether these are a whole Processor row that omits the field. With word 2 above 7 they are no row to read."""
+    return (len(words) == MODEL_WORDS and words[1] == PROCESSOR and words[2] <= MOST_GIVEN
+            and not words[2] & CAPACITY_GIVEN)
+
+
+def intake(models, connectors, couplings):
+    """What intake answers and reports of any words: refusal; where the bad row stands, which it is, how many rows omit."""
+    try:
+        table_in(models, connectors, couplings)
+    except BadRow as bad:
+        return bad.number, [*bad.place, 0]
+    # 1 names no row.
+    except Refused as refused:
+        return refused.number, [NOWHERE, 0, 0]
+    # "the intake reports how many rows omitted the field": where the table passes.
+    return 0, [NOWHERE, 0, sum(map(omits_capacity, rows_in(models, MODEL_WORDS)))]
+
+
+def written_out(models):
+    """The migration of any words: stored tables "get 2^64 - 1 written out". The words after it, and how many rows it wrote."""
+    words, count = list(models), 0
+    for start in range(0, len(words), MODEL_WORDS):
+        if omits_capacity(words[start:start + MODEL_WORDS]):
+            words[start + 2] += CAPACITY_GIVEN
+            words[start + 8] = UNLIMITED_CAPACITY
+            count += 1
+    return words, count
+
+
+def state_written_out(words):
+    """The same of the table that a stored state holds: its words 3 to 3 + 10n, n being word 0."""
+    models = words[3:3 + MODEL_WORDS * words[0]]
+    written, count = written_out(models)
+    return words[:3] + written + words[3 + len(models):], count
 
 
 # ---- the length of a state buffer

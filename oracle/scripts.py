@@ -7,7 +7,7 @@ internal event by A3 alone, which it has not in the Rust; there the script ends.
 import random
 from typing import NamedTuple, Optional
 
-from reading import INFINITE, Message, Ran, Refused, Stopwatch, StopwatchRow
+from reading import INFINITE, OMITTED_CAPACITY, Message, ProcessorRow, Ran, Refused, Stopwatch, StopwatchRow
 from tables import Tables, parentless
 from watching import PARTS, Watched
 
@@ -28,6 +28,7 @@ class Sizes(NamedTuple):
     jobs: list            # injections of a script, at most
     names: int            # different contents
     means: bool           # whether status is asked of a stopwatch that has a mean
+    crowd_share: float = 0.0  # scripts in which most jobs go to one processor that omits its capacity (A7)
 
 
 class Call(NamedTuple):
@@ -109,6 +110,7 @@ class Script(Messages):
         self.simulation.stops_where_parted = True
         self.table = self.maker.table()
         self.tables = [self.table]
+        self.crowded = self.crowd() if sizes.crowd_share and self.random.random() < sizes.crowd_share else None
         self.simulation.post(self.table)
         self.calls = []
         self.jobs = 0
@@ -129,10 +131,34 @@ class Script(Messages):
             return f'refusal {self.refusal}'
         return 'where A3 shows' if self.parts else 'none refused'
 
+    def crowd(self):
+        """Has a processor omit its capacity, if there is one; the id, its own or its Coupled's, to which its jobs go."""
+        rows = self.table.rows
+        tops = [row.id for row in parentless(rows)]
+        ways = [(row.id, row.id) for row in rows]
+        ways += [(coupling.target, coupling.owner) for coupling in self.table.couplings if coupling.kind == 'input']
+        found = [(place, by) for place, row in enumerate(rows) if isinstance(row, ProcessorRow)
+                 for to, by in ways if to == row.id and by in tops]
+        if not found:
+            return None
+        place, by = self.random.choice(found)
+        rows[place] = rows[place]._replace(capacity=OMITTED_CAPACITY)
+        self.most_jobs = max(self.most_jobs, OMITTED_CAPACITY + 8)
+        return by
+
+    def some_target(self):
+        """Where one row is crowded, most often that."""
+        if self.crowded is not None and self.random.random() < 0.9:
+            for row in parentless(self.tables[-1].rows):
+                if row.id == self.crowded:
+                    return row
+        return super().some_target()
+
     def plan(self):
         """Makes the calls, up to the most steps, to a refusal, to where A3 shows, or to the end of all events."""
         try:
-            self.inject(self.random.randint(1, max(1, 2 * self.most_jobs // 3)))
+            least = 1 if self.crowded is None else OMITTED_CAPACITY
+            self.inject(self.random.randint(least, max(least, 2 * self.most_jobs // 3)))
             while self.steps < self.most_steps and self.refusal is None and not self.parts:
                 if self.is_idle() and self.jobs == self.most_jobs:
                     break

@@ -3,13 +3,13 @@
 flat: no Coupled. mixed: Coupleds anywhere. deep: Coupleds in one another, to depth 4. fan: a component that
 feeds several processors of its Coupled.
 """
-from reading import (OMITTED_CAPACITY, BatcherRow, Connector, CoupledRow, Coupling, ProcessorRow,
+from reading import (OMITTED_CAPACITY, UNLIMITED_CAPACITY, BatcherRow, Connector, CoupledRow, Coupling, ProcessorRow,
                      StopwatchRow, Table)
 
 TIMES = [0.0, 0.0, 0.1, 0.1, 1.0, 1.0, 2.5, 2.5, 4.0, 4.0, 7.0, 7.0, 0.3, 0.7, 1 / 3, 2 / 7, 12.345, 1e-9]
 ODD_TIMES = [5e-324, 2.5e-308, 2.0 ** 53, 1e15 + 0.5]
 LATE_TIMES = [2.0 ** 60, 2.0 ** 60, 2.0 ** 60 - 128, 2.0 ** 59, 2.0 ** 59, 2.0 ** 58, 2.0 ** 53, 256.0, 128.0, 64.0, 2.5, 0.0]
-CAPACITIES = [1, 1, 2, 2, 3, 8, OMITTED_CAPACITY]
+CAPACITIES = [1, 1, 2, UNLIMITED_CAPACITY, 3, 8, OMITTED_CAPACITY]
 MAXIMA = [1, 1, 2, 2, 2, 3, 3, 4, 2 ** 62]
 PLAIN_IDS = list(range(1, 10))
 ODD_IDS = [1, 2, 255, 256, 257, 4096, 32768, 65534, 65535]

@@ -1,19 +1,19 @@
 """Random cases of the differential runs, each planned from its seed along the reading. They go on past refusals.
 
 short and plain: random calls on random tables. late: times near the largest. burst: connectors and couplings that multiply
-messages, to 64 and 256 and one more. fill: queues filled to 64, 256 injections. parked: messages parked at every depth, often with
-nothing due beside them (A3). long: rings that run for thousands of steps. large: tables of up to 64 rows. tables: damaged copies of
-good tables. states: damaged copies of good states.
+messages, to 32, 64 and 256 and one more. fill: queues filled to 32 and 64, 256 injections. parked: messages parked at every depth,
+often with nothing due beside them (A3). long: rings that run for thousands of steps. large: tables of up to 64 rows. tables:
+damaged copies of good tables, and any words. states: damaged copies of good states, and some as they were stored before A7.
 """
 import math
 import random
 
 from asking import table_lines
-from bursts import burst_table, full_table, large_table, parked_table, ring_table
+from bursts import AROUND_OMITTED, burst_table, full_table, large_table, parked_table, ring_table
 from calling import ALL_ROWS, Case
-from reading import INFINITE, BatcherRow, Message
-from reading_words import (CONNECTOR_WORDS, COUPLING_WORDS, HEAD_WORDS, MESSAGE_WORDS, MODEL_WORDS, table_words, word_of,
-                           words_needed)
+from reading import INFINITE, MOST_HELD, UNLIMITED_CAPACITY, BatcherRow, Message, ProcessorRow
+from reading_words import (CAPACITY_GIVEN, CONNECTOR_WORDS, COUPLING_WORDS, HEAD_WORDS, MESSAGE_WORDS, MODEL_WORDS, filled,
+                           table_words, word_of, words_needed)
 from scripts import NO_STATUS, WIDE_CONTENTS, Call, Messages
 from tables import LATE_TIMES, TIMES, Tables, parentless
 
@@ -93,9 +93,9 @@ class Trial(Messages):
     def plan_fill(self):
         """Many injections, of contents that differ."""
         self.contents = list(range(1, 400))
-        self.start(full_table(self.random))
+        count = self.random.choice(AROUND_OMITTED + [62, 63, 64, 65, 66, 128, 255, 256, 257, 258])
+        self.start(full_table(self.random, count))
         target = self.tables[-1].rows[0].id if self.happens(0.8) else NO_STATUS
-        count = self.random.choice([62, 63, 64, 65, 66, 128, 255, 256, 257, 258])
         for content in range(1, count + 1):
             self.inject(Message(0, 0, target, 1, 0.0, content))
             if count < 200 and self.happens(0.02):
@@ -135,10 +135,12 @@ class Trial(Messages):
         self.start_with_jobs()
         for _ in range(self.random.randint(3, 9)):
             slices = self.damaged_slices(table_words(self.maker.table(), self.random))
+            if self.happens(0.15):
+                slices[0] = self.any_models()
             self.case.buffer(max(words_needed(*map(len, slices)), self.case.length) + self.random.choice([0, 0, 0, 3]))
             if self.happens(0.1):
                 self.case.ask_words(*map(len, slices))
-            if not self.case.table(self.random.choice(['post', 'put']), slices):
+            if not self.case.table(self.random.choice(['post', 'put']), slices, write_out=self.some_length(slices[0], 0.3)):
                 self.tables.append(self.simulation.table)
                 self.inject_some()
                 self.make_calls(2)
@@ -149,7 +151,7 @@ class Trial(Messages):
         self.make_calls(self.random.randint(1, 8))
         for _ in range(self.random.randint(4, 10)):
             if self.case.slices is not None:
-                self.random.choice([self.damage_state] * 8 + [self.release_early])()
+                self.random.choice([self.damage_state] * 8 + [self.release_early, self.hand_in_old])()
 
     def start_with_jobs(self, table=None):
         """A table, then injections and steps in most cases."""
@@ -183,7 +185,7 @@ class Trial(Messages):
         """post or put of a good table; now and then first with a buffer that is too short for it."""
         in_lines = self.happens(0.3)
         slices = table_words(table, None if in_lines else self.random)
-        lines = table_lines(table) if in_lines else None
+        lines = table_lines(table, omits=True) if in_lines else None
         needed = words_needed(*map(len, slices))
         self.case.buffer(max(needed, self.case.length) + self.random.choice([0, 0, 0, 0, 0, 0, 1, 7, 300]))
         if self.happens(0.05):
@@ -191,8 +193,24 @@ class Trial(Messages):
             self.case.table(name, slices, lines)
         if self.happens(0.03):
             self.case.ask_words(*map(len, slices))
-        if not self.case.table(name, slices, lines):
-            self.tables.append(table)
+        if not self.case.table(name, slices, lines, self.some_length(slices[0], 0.1)):
+            self.tables.append(self.simulation.table)
+
+    def some_length(self, models, share):
+        """In that share of the times, how many words of the models are written out: all of them, at times fewer."""
+        if not self.happens(share):
+            return None
+        return len(models) if self.happens(0.7) else self.random.randint(0, len(models))
+
+    def any_models(self):
+        """Words that may be model rows, or not; many of them say that they are a Processor's."""
+        words = []
+        for _ in range(self.random.choice([1, 2, 3, 5, 20, 64, 65, 70])):
+            row = [self.random.choice(ODD_WORDS) for _ in range(MODEL_WORDS)]
+            row[1] = self.random.choice([1, 1, 1, 1, 2, 3, 4, row[1]])
+            row[2] = self.random.choice([*range(10), row[2]])
+            words += row
+        return words[:len(words) - self.random.choice([0, 0, 1, 2, 5, 7, 8, 9])]
 
     def damaged_slices(self, slices):
         """Three slices of words with something changed."""
@@ -256,6 +274,35 @@ class Trial(Messages):
         self.case.state(image)
         self.case.asks = False
         return image, end
+
+    def hand_in_old(self):
+        """A state stored before A7, which omits what then had no end: with more than 32 held refused, until it is written out."""
+        case = self.case
+        image, _ = self.hand_in()
+        for place, row in enumerate(self.simulation.table.rows):
+            if isinstance(row, ProcessorRow) and (row.capacity == UNLIMITED_CAPACITY or self.happens(0.5)):
+                self.fill_old_row(image, place)
+        case.state(image)
+        if case.slices is None:
+            self.make_any_call()
+            case.write_out_state(image)
+        else:
+            self.make_calls(self.random.randint(0, 3))
+            case.write_out_state()
+        if case.slices is not None:
+            self.tables.append(self.simulation.table)
+            self.make_calls(self.random.randint(1, 4))
+
+    def fill_old_row(self, image, place):
+        """Omits a row's capacity, and has it hold some jobs, often about 32."""
+        row = 3 + MODEL_WORDS * place
+        changing = 3 + sum(map(len, self.case.slices))
+        head = changing + 3 + HEAD_WORDS * place
+        own = changing + image[head + 3]
+        image[row + 2] &= ~CAPACITY_GIVEN
+        held = self.random.choice([image[head + 2], *AROUND_OMITTED, 40, 63, 64])
+        image[head + 2] = held
+        image[own:own + MOST_HELD] = filled(list(range(1, held + 1)))
 
     def release_early(self):
         """A batcher in Release with room, which no run leads to: the next job there is refused with 6."""

@@ -4,12 +4,14 @@ It also sees where the published Rust parts from A3 of 02, and can stop there.
 """
 import collections
 
-from reading import INFINITE, Batcher, Coupled, CoupledRow, Processor, Refused, Simulation, Stopwatch
+from reading import INFINITE, OMITTED_CAPACITY, Batcher, Coupled, CoupledRow, Processor, Refused, Simulation, Stopwatch
 from reading_words import all_models
 from tables import depths
 
 # With this in place of a number a step is refused in which the rules and the Rust part, where that is asked for.
 PARTS = 'parts'
+# What A7 drops, where the capacity was omitted.
+DROPPED_BY_A7 = f'jobs dropped with {OMITTED_CAPACITY} held'
 
 
 def timer_in_rust(model):
@@ -82,7 +84,9 @@ class Watched(Simulation):
         super().deliver(model, port, job)
         self.path.pop()
         self.seen['parked messages handed over'] += was_parked
-        self.seen['dropped jobs'] += isinstance(model, Processor) and len(model.held) == held
+        dropped = isinstance(model, Processor) and len(model.held) == held
+        self.seen['dropped jobs'] += dropped
+        self.seen[DROPPED_BY_A7] += dropped and held == OMITTED_CAPACITY
 
     def is_about_to_part(self):
         """Whether a Coupled is due by A3 alone, as things are: a message that comes may change that."""

@@ -41,8 +41,9 @@ from write_cases import count_script
 
 SHORT = Sizes(rows=7, trap_share=0.45, few_share=0.12, few=4, services=200, steps=range(3, 13),
               jobs=[0] + list(range(1, 13)) * 4, names=4, means=True)
+# Half of these fill an omitted capacity (A7), where the table has a processor to which jobs can be sent.
 LONG = Sizes(rows=9, trap_share=0.2, few_share=0.2, few=40, services=300, steps=range(20, 60),
-             jobs=range(5, 80), names=12, means=True)
+             jobs=range(5, 80), names=12, means=True, crowd_share=0.5)
 LONG_EVERY = 40
 # What the program has room for: bytes of a case, numbers of a line, service times.
 MOST_BYTES = 65535

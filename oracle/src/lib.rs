@@ -10,6 +10,9 @@ use sim::simulator::Connector;
 
 pub type Answer<T> = Result<T, String>;
 
+/// "An omitted queue capacity means 32" (A7). The Rust's own default has no limit, so it is handed this.
+const OMITTED_CAPACITY: usize = 32;
+
 /// A model's line: its id, its parent's id or `-`, its kind and the rest.
 pub struct Row {
     pub id: String,
@@ -60,12 +63,17 @@ pub fn field(fields: &[String], index: usize) -> Answer<String> {
     fields.get(index).cloned().ok_or("a field is lacking".into())
 }
 
+/// A queue capacity; `-` is an omitted one.
+fn capacity(text: &str) -> Answer<usize> {
+    if text == "-" { Ok(OMITTED_CAPACITY) } else { number(text) }
+}
+
 fn model(table: &Table, row: &Row) -> Answer<Model> {
     let at = |index| field(&row.fields, index);
     let inner: Box<dyn ReportableModel> = match row.kind.as_str() {
         "processor" => Box::new(Processor::new(
             ContinuousRandomVariable::List,
-            Some(at(2)?).filter(|text| text != "-").map(|text| number(&text)).transpose()?,
+            Some(capacity(&at(2)?)?),
             at(0)?,
             at(1)?,
             false,
