@@ -43,18 +43,18 @@ case-003 = refl
 
 -- 100004
 pub case-004 :
-    play (coup 6 0 ∷ proc 9 6 1 2 1 ∷ proc 8 6 1 1 1 ∷ proc 7 6 1 1 2 ∷ []) (link 6 2 6 1 ∷ []) (into 6 1 7 1 ∷ inner 6 7 1 8 1 ∷ inner 6 8 1 7 1 ∷ out 6 8 1 2 ∷ inner 6 7 1 9 1 ∷ inner 6 7 1 9 1 ∷ [])
+    play (coup 6 0 ∷ proc 9 6 1 2 1 ∷ proc 8 6 1 1 1 ∷ proc 7 6 1 1 full ∷ []) (link 6 2 6 1 ∷ []) (into 6 1 7 1 ∷ inner 6 7 1 8 1 ∷ inner 6 8 1 7 1 ∷ out 6 8 1 2 ∷ inner 6 7 1 9 1 ∷ inner 6 7 1 9 1 ∷ [])
     (0x3fb999999999999a ∷ 0x3fe6666666666666 ∷ 0x4028b0a3d70a3d71 ∷ 0x4010000000000000 ∷ 0x4010000000000000 ∷ 0x3fe6666666666666 ∷ 0x401c000000000000 ∷ 0x3fe6666666666666 ∷ [])
     (job 6 1 1 ∷ status 8 ∷ step ∷ look ∷ step ∷ look ∷ until 0x4024333333333333 4 ∷ look ∷ until 0x402ae3d70a3d70a5 3 ∷ look ∷ step ∷ look ∷ step ∷ look ∷ until 0x40313eb851eb851f 1 ∷ [])
     ≡ seen
     (refuses 4 ∷ ran 1 [] 0 1 ∷ holds (c0 ∷ p0 ∷ p0 ∷ pActive 0x3fb999999999999a (1 ∷ []) ∷ []) [] ∷ ran 1 [] 0x3fb999999999999a 1 ∷ holds (parks ((8, 1, 1) ∷ (9, 1, 1) ∷ (9, 1, 1) ∷ []) ∷ p0 ∷ p0 ∷ pPassive 0 [] ∷ []) [] ∷ reached 4 [] 0x4028e3d70a3d70a5 3 ∷ holds (parks ((7, 1, 1) ∷ []) ∷ p0 ∷ pPassive 0 [] ∷ p0 ∷ []) ((6, 2, 6, 1, 0x4028e3d70a3d70a5, 1) ∷ []) ∷ reached 2 [] 0x403071eb851eb852 4 ∷ holds (parks ((8, 1, 1) ∷ (9, 1, 1) ∷ (9, 1, 1) ∷ []) ∷ p0 ∷ p0 ∷ pPassive 0 (1 ∷ []) ∷ []) [] ∷ ran 1 [] 0x403071eb851eb852 7 ∷ holds (c0 ∷ pActive 0x4010000000000000 (1 ∷ []) ∷ pActive 0x3fe6666666666666 (1 ∷ []) ∷ pActive 0x401c000000000000 (1 ∷ []) ∷ []) [] ∷ ran 1 ((6, 2, 6, 1, 0x4031251eb851eb85, 1) ∷ []) 0x4031251eb851eb85 7 ∷ holds (parks ((7, 1, 1) ∷ []) ∷ pActive 0x400a666666666666 (1 ∷ []) ∷ pPassive 0 [] ∷ pActive 0x4019333333333333 (1 ∷ []) ∷ []) ((6, 2, 6, 1, 0x4031251eb851eb85, 1) ∷ []) ∷ spent 1 [] 0x4031251eb851eb85 7 ∷ [])
-    (c0 ∷ pActive 0x400a666666666666 (1 ∷ []) ∷ p0 ∷ pActive 0x4019333333333333 (1 ∷ 1 ∷ []) ∷ []) []
+    (c0 ∷ pActive 0x400a666666666666 (1 ∷ []) ∷ p0 ∷ pActive 0x4019333333333333 (1 ∷ 1 ∷ 1 ∷ []) ∷ []) []
 unfolding play
 case-004 = refl
 
 -- 100005
 pub case-005 :
-    play (proc 8 0 1 1 full ∷ proc 6 0 1 1 2 ∷ bat 3 0 1 1 1 0 ∷ proc 4 0 1 2 full ∷ most 2 0 2 3 4 1 ∷ bat 7 0 1 2 2 0 ∷ proc 9 0 1 1 8 ∷ []) (link 2 1 9 1 ∷ link 8 1 4 1 ∷ link 6 1 3 1 ∷ link 2 1 2 3 ∷ link 3 1 9 1 ∷ link 9 1 6 1 ∷ link 9 1 2 4 ∷ link 9 1 8 1 ∷ link 9 1 2 2 ∷ []) []
+    play (proc 8 0 1 1 32 ∷ proc 6 0 1 1 2 ∷ bat 3 0 1 1 1 0 ∷ proc 4 0 1 2 32 ∷ most 2 0 2 3 4 1 ∷ bat 7 0 1 2 2 0 ∷ proc 9 0 1 1 8 ∷ []) (link 2 1 9 1 ∷ link 8 1 4 1 ∷ link 6 1 3 1 ∷ link 2 1 2 3 ∷ link 3 1 9 1 ∷ link 9 1 6 1 ∷ link 9 1 2 4 ∷ link 9 1 8 1 ∷ link 9 1 2 2 ∷ []) []
     (0 ∷ 0x3fd2492492492492 ∷ 0x3ff0000000000000 ∷ 0x3fd3333333333333 ∷ 0x3fe6666666666666 ∷ 0x3fd2492492492492 ∷ [])
     (job 3 2 1 ∷ job 9 1 3 ∷ job 7 1 3 ∷ until 0 1 ∷ look ∷ step ∷ look ∷ steps 4 ∷ [])
     ≡ seen
@@ -98,7 +98,7 @@ case-008 = refl
 
 -- 100010
 pub case-009 :
-    play (proc 3 0 1 2 2 ∷ least 4 0 4 3 1 1 ∷ proc 5 0 1 2 3 ∷ proc 7 0 1 2 1 ∷ bat 1 0 1 2 4 0x3ff0000000000000 ∷ bat 9 0 1 2 1 0x3ff0000000000000 ∷ most 8 0 4 2 3 1 ∷ []) (link 8 1 1 2 ∷ link 1 2 99 1 ∷ link 7 2 1 4 ∷ link 1 2 7 1 ∷ link 9 2 1 4 ∷ link 8 1 4 4 ∷ link 3 2 8 3 ∷ link 4 1 7 1 ∷ link 8 1 99 4 ∷ link 9 2 4 1 ∷ link 7 2 8 2 ∷ link 3 2 4 3 ∷ link 5 2 8 2 ∷ link 3 2 5 1 ∷ link 1 2 8 4 ∷ link 3 2 4 1 ∷ []) []
+    play (proc 3 0 1 2 full ∷ least 4 0 4 3 1 1 ∷ proc 5 0 1 2 3 ∷ proc 7 0 1 2 1 ∷ bat 1 0 1 2 4 0x3ff0000000000000 ∷ bat 9 0 1 2 1 0x3ff0000000000000 ∷ most 8 0 4 2 3 1 ∷ []) (link 8 1 1 2 ∷ link 1 2 99 1 ∷ link 7 2 1 4 ∷ link 1 2 7 1 ∷ link 9 2 1 4 ∷ link 8 1 4 4 ∷ link 3 2 8 3 ∷ link 4 1 7 1 ∷ link 8 1 99 4 ∷ link 9 2 4 1 ∷ link 7 2 8 2 ∷ link 3 2 4 3 ∷ link 5 2 8 2 ∷ link 3 2 5 1 ∷ link 1 2 8 4 ∷ link 3 2 4 1 ∷ []) []
     (0x3fd5555555555555 ∷ 0x4004000000000000 ∷ 0x401c000000000000 ∷ [])
     (inject 5 3 3 1 0x3ff0000000000000 4294967295 ∷ step ∷ look ∷ job 1 2 7 ∷ job 9 4 2147483648 ∷ inject 0 0 7 1 0x3fe6666666666666 4294967295 ∷ inject 5 3 5 1 0 4294967295 ∷ job 5 1 0 ∷ step ∷ look ∷ job 9 3 2147483648 ∷ job 1 2 0 ∷ until 0x3ff0000000000000 3 ∷ [])
     ≡ seen
@@ -175,9 +175,9 @@ case-015 = refl
 
 -- 100019
 pub case-016 :
-    play (coup 8 0 ∷ proc 2 8 1 2 1 ∷ proc 5 8 1 2 2 ∷ proc 4 8 1 2 1 ∷ proc 9 0 1 2 8 ∷ []) (link 8 2 9 1 ∷ link 8 2 9 1 ∷ link 9 2 8 1 ∷ link 8 1 9 1 ∷ link 9 2 8 2 ∷ []) (into 8 2 2 1 ∷ inner 8 5 2 2 1 ∷ inner 8 5 2 4 1 ∷ into 8 1 4 1 ∷ out 8 5 2 2 ∷ out 8 5 2 1 ∷ inner 8 2 2 5 1 ∷ out 8 4 2 2 ∷ inner 8 2 2 2 1 ∷ [])
+    play (coup 8 0 ∷ proc 2 8 1 2 1 ∷ proc 5 8 1 2 full ∷ proc 4 8 1 2 1 ∷ proc 9 0 1 2 8 ∷ []) (link 8 2 9 1 ∷ link 8 2 9 1 ∷ link 9 2 8 1 ∷ link 8 1 9 1 ∷ link 9 2 8 2 ∷ []) (into 8 2 2 1 ∷ inner 8 5 2 2 1 ∷ inner 8 5 2 4 1 ∷ into 8 1 4 1 ∷ out 8 5 2 2 ∷ out 8 5 2 1 ∷ inner 8 2 2 5 1 ∷ out 8 4 2 2 ∷ inner 8 2 2 2 1 ∷ [])
     (0x3fd2492492492492 ∷ 0x3ff0000000000000 ∷ 0x3fe6666666666666 ∷ 0x3fb999999999999a ∷ 0 ∷ [])
-    (inject 65535 3 9 1 0 1 ∷ job 8 4 3 ∷ job 8 1 3 ∷ status 9 ∷ put-in (proc 5 0 1 1 2 ∷ proc 1 0 1 2 2 ∷ proc 6 0 1 1 2 ∷ bat 2 0 1 2 4 0x4010000000000000 ∷ proc 4 0 1 2 2 ∷ []) (link 5 1 1 1 ∷ link 6 1 5 1 ∷ link 5 1 2 3 ∷ link 2 2 5 1 ∷ link 4 2 2 3 ∷ link 1 2 5 1 ∷ []) [] ∷ step ∷ look ∷ job 6 1 3 ∷ until 0x401c000000000000 8 ∷ [])
+    (inject 65535 3 9 1 0 1 ∷ job 8 4 3 ∷ job 8 1 3 ∷ status 9 ∷ put-in (proc 5 0 1 1 2 ∷ proc 1 0 1 2 2 ∷ proc 6 0 1 1 full ∷ bat 2 0 1 2 4 0x4010000000000000 ∷ proc 4 0 1 2 full ∷ []) (link 5 1 1 1 ∷ link 6 1 5 1 ∷ link 5 1 2 3 ∷ link 2 2 5 1 ∷ link 4 2 2 3 ∷ link 1 2 5 1 ∷ []) [] ∷ step ∷ look ∷ job 6 1 3 ∷ until 0x401c000000000000 8 ∷ [])
     ≡ seen
     (says (OfProcessor working.Passive) ∷ ran 1 [] 0 0 ∷ holds (p0 ∷ p0 ∷ p0 ∷ b0 ∷ p0 ∷ []) [] ∷ spent 8 ((6, 1, 5, 1, 0x3fd2492492492492, 3) ∷ (5, 1, 1, 1, 0x3ff4924924924924, 3) ∷ (5, 1, 2, 3, 0x3ff4924924924924, 3) ∷ (1, 2, 5, 1, 0x3fffc57c57c57c57, 3) ∷ (5, 1, 1, 1, 0x4000af8af8af8af8, 3) ∷ (5, 1, 2, 3, 0x4000af8af8af8af8, 3) ∷ []) 0x4000af8af8af8af8 4 ∷ [])
     (pPassive 0 [] ∷ p0 ∷ p0 ∷ bBatching 0x4009999999999999 (3 ∷ []) ∷ p0 ∷ []) ((5, 1, 1, 1, 0x4000af8af8af8af8, 3) ∷ (5, 1, 2, 3, 0x4000af8af8af8af8, 3) ∷ [])
@@ -186,7 +186,7 @@ case-016 = refl
 
 -- 100020
 pub case-017 :
-    play (coup 2 0 ∷ proc 3 2 1 1 2 ∷ proc 5 2 1 2 full ∷ proc 4 2 1 2 1 ∷ bat 6 2 1 2 1 0x3fb999999999999a ∷ []) (link 2 1 2 2 ∷ link 2 1 99 4 ∷ link 2 1 2 2 ∷ link 6 2 2 2 ∷ []) (inner 2 3 1 5 1 ∷ inner 2 3 1 4 65000 ∷ inner 2 4 2 6 4 ∷ into 2 2 6 4 ∷ out 2 4 2 1 ∷ into 2 2 4 1 ∷ out 2 3 1 1 ∷ out 2 6 2 1 ∷ into 2 2 6 3 ∷ inner 2 3 1 4 1 ∷ [])
+    play (coup 2 0 ∷ proc 3 2 1 1 full ∷ proc 5 2 1 2 32 ∷ proc 4 2 1 2 1 ∷ bat 6 2 1 2 1 0x3fb999999999999a ∷ []) (link 2 1 2 2 ∷ link 2 1 99 4 ∷ link 2 1 2 2 ∷ link 6 2 2 2 ∷ []) (inner 2 3 1 5 1 ∷ inner 2 3 1 4 65000 ∷ inner 2 4 2 6 4 ∷ into 2 2 6 4 ∷ out 2 4 2 1 ∷ into 2 2 4 1 ∷ out 2 3 1 1 ∷ out 2 6 2 1 ∷ into 2 2 6 3 ∷ inner 2 3 1 4 1 ∷ [])
     (0x4340000000000000 ∷ 0 ∷ [])
     (job 2 2 3 ∷ step ∷ look ∷ step ∷ look ∷ job 2 3 2 ∷ job 2 2 2 ∷ steps 1 ∷ look ∷ until 0 2 ∷ look ∷ inject 0 0 2 2 0x4010000000000000 2 ∷ step ∷ look ∷ put-in (proc 8 0 1 1 0 ∷ bat 5 0 1 1 1 0 ∷ least 7 0 4 1 3 2 ∷ proc 1 0 1 2 3 ∷ []) (link 7 2 7 3 ∷ link 8 1 7 1 ∷ link 7 2 7 4 ∷ link 1 2 7 1 ∷ link 8 1 1 1 ∷ link 7 2 1 1 ∷ link 5 1 8 1 ∷ link 1 2 8 1 ∷ []) [] ∷ until 0x4004000000000000 1 ∷ [])
     ≡ seen
@@ -197,7 +197,7 @@ case-017 = refl
 
 -- 100021
 pub case-018 :
-    play (proc 2 0 0 65534 2 ∷ bat 9 0 0 65534 4611686018427387904 0x3e112e0be826d695 ∷ proc 8 0 0 65534 full ∷ bat 7 0 0 0 4 0 ∷ bat 5 0 0 0 3 0x3fb999999999999a ∷ []) (link 2 65534 5 65534 ∷ link 8 65534 9 0 ∷ link 9 65534 99 32768 ∷ link 8 65534 2 17 ∷ link 5 0 9 0 ∷ []) []
+    play (proc 2 0 0 65534 2 ∷ bat 9 0 0 65534 4611686018427387904 0x3e112e0be826d695 ∷ proc 8 0 0 65534 32 ∷ bat 7 0 0 0 4 0 ∷ bat 5 0 0 0 3 0x3fb999999999999a ∷ []) (link 2 65534 5 65534 ∷ link 8 65534 9 0 ∷ link 9 65534 99 32768 ∷ link 8 65534 2 17 ∷ link 5 0 9 0 ∷ []) []
     (0x4010000000000000 ∷ 0x3fd5555555555555 ∷ [])
     (inject 0 0 2 0 0x3ff0000000000000 3 ∷ inject 0 0 7 32768 0x4010000000000000 1 ∷ job 9 65535 1 ∷ job 97 0 1 ∷ job 2 0 3 ∷ job 5 32768 1 ∷ until 0x3ff0000000000000 9 ∷ [])
     ≡ seen
@@ -208,7 +208,7 @@ case-018 = refl
 
 -- 100022
 pub case-019 :
-    play (coup 1 0 ∷ bat 4096 1 1 2 1 0x3fb999999999999a ∷ proc 32768 1 1 1 2 ∷ proc 65535 1 1 1 1 ∷ bat 2 0 1 1 4 0x4004000000000000 ∷ proc 257 1 1 2 2 ∷ []) (link 2 1 1 2 ∷ link 1 1 2 1 ∷ link 2 1 1 1 ∷ []) (into 1 1 4096 3 ∷ inner 1 65535 1 65535 1 ∷ into 1 1 32768 1 ∷ out 1 257 2 1 ∷ inner 1 4096 2 257 1 ∷ inner 1 65535 1 4096 4 ∷ inner 1 4096 2 65535 1 ∷ into 1 2 257 1 ∷ [])
+    play (coup 1 0 ∷ bat 4096 1 1 2 1 0x3fb999999999999a ∷ proc 32768 1 1 1 full ∷ proc 65535 1 1 1 1 ∷ bat 2 0 1 1 4 0x4004000000000000 ∷ proc 257 1 1 2 full ∷ []) (link 2 1 1 2 ∷ link 1 1 2 1 ∷ link 2 1 1 1 ∷ []) (into 1 1 4096 3 ∷ inner 1 65535 1 65535 1 ∷ into 1 1 32768 1 ∷ out 1 257 2 1 ∷ inner 1 4096 2 257 1 ∷ inner 1 65535 1 4096 4 ∷ inner 1 4096 2 65535 1 ∷ into 1 2 257 1 ∷ [])
     (0x3ff0000000000000 ∷ 0x3fb999999999999a ∷ 0 ∷ [])
     (job 2 1 2 ∷ step ∷ look ∷ status 32768 ∷ steps 2 ∷ [])
     ≡ seen
@@ -219,7 +219,7 @@ case-019 = refl
 
 -- 100023
 pub case-020 :
-    play (most 8 0 3 1 4 2 ∷ proc 5 0 1 2 full ∷ bat 7 0 1 1 3 0x4028b0a3d70a3d71 ∷ proc 1 0 1 2 3 ∷ proc 2 0 1 1 8 ∷ proc 4 0 1 2 8 ∷ most 6 0 4 2 3 1 ∷ []) (link 5 2 7 2 ∷ link 1 2 6 4 ∷ link 2 1 6 4 ∷ link 7 1 2 1 ∷ link 6 1 8 1 ∷ link 6 1 6 2 ∷ link 4 2 2 1 ∷ link 7 1 2 1 ∷ link 5 2 99 4 ∷ link 5 2 8 4 ∷ link 8 2 6 4 ∷ link 6 1 8 3 ∷ link 2 1 6 3 ∷ link 5 2 8 1 ∷ link 7 1 4 1 ∷ []) []
+    play (most 8 0 3 1 4 2 ∷ proc 5 0 1 2 32 ∷ bat 7 0 1 1 3 0x4028b0a3d70a3d71 ∷ proc 1 0 1 2 3 ∷ proc 2 0 1 1 8 ∷ proc 4 0 1 2 8 ∷ most 6 0 4 2 3 1 ∷ []) (link 5 2 7 2 ∷ link 1 2 6 4 ∷ link 2 1 6 4 ∷ link 7 1 2 1 ∷ link 6 1 8 1 ∷ link 6 1 6 2 ∷ link 4 2 2 1 ∷ link 7 1 2 1 ∷ link 5 2 99 4 ∷ link 5 2 8 4 ∷ link 8 2 6 4 ∷ link 6 1 8 3 ∷ link 2 1 6 3 ∷ link 5 2 8 1 ∷ link 7 1 4 1 ∷ []) []
     (0x3fb999999999999a ∷ 0x4004000000000000 ∷ 0x4004000000000000 ∷ 0x401c000000000000 ∷ 0x4010000000000000 ∷ 0x3fb999999999999a ∷ [])
     (job 7 2 1 ∷ job 5 1 1 ∷ job 8 3 1 ∷ inject 0 0 2 1 0x3fb999999999999a 2 ∷ job 8 1 3 ∷ until 0x4010000000000000 7 ∷ look ∷ step ∷ look ∷ step ∷ look ∷ steps 0 ∷ look ∷ job 8 4 1 ∷ step ∷ look ∷ reset-messages ∷ step ∷ [])
     ≡ seen
@@ -241,12 +241,12 @@ case-021 = refl
 
 -- 100026
 pub case-022 :
-    play (coup 7 0 ∷ coup 1 7 ∷ coup 8 1 ∷ coup 4 8 ∷ least 9 0 3 1 4 1 ∷ proc 3 4 1 2 2 ∷ []) (link 7 1 9 4 ∷ link 7 1 7 1 ∷ link 3 2 7 1 ∷ link 9 1 99 2 ∷ []) (inner 4 3 2 3 1 ∷ into 1 2 8 2 ∷ into 8 2 4 2 ∷ inner 1 8 1 8 1 ∷ inner 7 1 1 1 2 ∷ into 1 1 8 3 ∷ inner 8 4 1 4 2 ∷ out 8 4 1 2 ∷ out 4 3 2 1 ∷ inner 7 1 2 1 2 ∷ inner 8 4 1 98 2 ∷ inner 7 1 4 98 2 ∷ inner 8 4 1 4 2 ∷ inner 4 3 2 3 1 ∷ inner 8 4 1 4 2 ∷ inner 1 8 2 98 4 ∷ out 7 1 1 1 ∷ into 8 2 4 2 ∷ out 8 4 1 1 ∷ into 4 2 3 1 ∷ into 7 1 1 2 ∷ inner 7 1 3 1 1 ∷ inner 1 8 1 8 2 ∷ into 4 2 3 1 ∷ into 8 1 4 2 ∷ [])
+    play (coup 7 0 ∷ coup 1 7 ∷ coup 8 1 ∷ coup 4 8 ∷ least 9 0 3 1 4 1 ∷ proc 3 4 1 2 full ∷ []) (link 7 1 9 4 ∷ link 7 1 7 1 ∷ link 3 2 7 1 ∷ link 9 1 99 2 ∷ []) (inner 4 3 2 3 1 ∷ into 1 2 8 2 ∷ into 8 2 4 2 ∷ inner 1 8 1 8 1 ∷ inner 7 1 1 1 2 ∷ into 1 1 8 3 ∷ inner 8 4 1 4 2 ∷ out 8 4 1 2 ∷ out 4 3 2 1 ∷ inner 7 1 2 1 2 ∷ inner 8 4 1 98 2 ∷ inner 7 1 4 98 2 ∷ inner 8 4 1 4 2 ∷ inner 4 3 2 3 1 ∷ inner 8 4 1 4 2 ∷ inner 1 8 2 98 4 ∷ out 7 1 1 1 ∷ into 8 2 4 2 ∷ out 8 4 1 1 ∷ into 4 2 3 1 ∷ into 7 1 1 2 ∷ inner 7 1 3 1 1 ∷ inner 1 8 1 8 2 ∷ into 4 2 3 1 ∷ into 8 1 4 2 ∷ [])
     (0 ∷ 0x3fb999999999999a ∷ 0x3e112e0be826d695 ∷ 0x4028b0a3d70a3d71 ∷ [])
     (job 97 2 2 ∷ job 7 1 3 ∷ inject 0 0 9 4 0x3fd3333333333333 3 ∷ job 9 3 3 ∷ until 0x4010000000000000 5 ∷ [])
     ≡ seen
     (spent 5 [] 0x3fb999999de51c94 3 ∷ [])
-    (c0 ∷ parks ((98, 4, 3) ∷ (8, 1, 3) ∷ (8, 2, 3) ∷ []) ∷ parks ((4, 2, 3) ∷ (98, 2, 3) ∷ (4, 2, 3) ∷ (4, 2, 3) ∷ []) ∷ parks ((3, 1, 3) ∷ (3, 1, 3) ∷ []) ∷ sPassive inf ((3, some 0, none) ∷ []) ∷ pPassive 0 (3 ∷ []) ∷ []) []
+    (c0 ∷ parks ((98, 4, 3) ∷ (8, 1, 3) ∷ (8, 2, 3) ∷ []) ∷ parks ((4, 2, 3) ∷ (98, 2, 3) ∷ (4, 2, 3) ∷ (4, 2, 3) ∷ []) ∷ parks ((3, 1, 3) ∷ (3, 1, 3) ∷ []) ∷ sPassive inf ((3, some 0, none) ∷ []) ∷ pPassive 0 (3 ∷ 3 ∷ 3 ∷ 3 ∷ 3 ∷ 3 ∷ 3 ∷ 3 ∷ 3 ∷ 3 ∷ 3 ∷ 3 ∷ 3 ∷ 3 ∷ 3 ∷ 3 ∷ 3 ∷ 3 ∷ 3 ∷ 3 ∷ 3 ∷ 3 ∷ 3 ∷ 3 ∷ 3 ∷ 3 ∷ 3 ∷ 3 ∷ 3 ∷ []) ∷ []) []
 unfolding play
 case-022 = refl
 
@@ -274,11 +274,11 @@ case-024 = refl
 
 -- 100030
 pub case-025 :
-    play (coup 3 0 ∷ proc 4 3 0 65534 2 ∷ bat 9 0 0 65534 2 0x3fe6666666666666 ∷ coup 6 3 ∷ proc 2 6 0 65534 full ∷ bat 1 6 0 65534 1 0x401c000000000000 ∷ []) (link 4 65534 9 1000 ∷ link 9 65534 3 0 ∷ link 9 65534 3 0 ∷ link 9 65534 3 65534 ∷ []) (inner 3 6 0 4 17 ∷ out 6 2 65534 0 ∷ out 3 6 0 65534 ∷ into 3 65534 6 0 ∷ inner 3 6 0 6 32768 ∷ into 6 0 1 32768 ∷ inner 6 1 65534 2 0 ∷ into 6 0 2 0 ∷ into 3 0 4 0 ∷ inner 6 1 65534 98 1000 ∷ inner 3 6 0 6 0 ∷ inner 6 2 65534 2 0 ∷ [])
+    play (coup 3 0 ∷ proc 4 3 0 65534 full ∷ bat 9 0 0 65534 2 0x3fe6666666666666 ∷ coup 6 3 ∷ proc 2 6 0 65534 32 ∷ bat 1 6 0 65534 1 0x401c000000000000 ∷ []) (link 4 65534 9 1000 ∷ link 9 65534 3 0 ∷ link 9 65534 3 0 ∷ link 9 65534 3 65534 ∷ []) (inner 3 6 0 4 17 ∷ out 6 2 65534 0 ∷ out 3 6 0 65534 ∷ into 3 65534 6 0 ∷ inner 3 6 0 6 32768 ∷ into 6 0 1 32768 ∷ inner 6 1 65534 2 0 ∷ into 6 0 2 0 ∷ into 3 0 4 0 ∷ inner 6 1 65534 98 1000 ∷ inner 3 6 0 6 0 ∷ inner 6 2 65534 2 0 ∷ [])
     (0x3ff0000000000000 ∷ 0x4004000000000000 ∷ [])
     (inject 0 0 9 65534 0x3fe6666666666666 1 ∷ inject 0 0 3 0 0x4028b0a3d70a3d71 3 ∷ inject 0 0 9 1000 0x3fd5555555555555 2 ∷ job 9 32768 3 ∷ step ∷ look ∷ steps 2 ∷ [])
     ≡ seen
     (ran 1 ((9, 65534, 3, 0, 0, 1) ∷ (9, 65534, 3, 0, 0, 1) ∷ (9, 65534, 3, 65534, 0, 1) ∷ (9, 65534, 3, 0, 0, 2) ∷ (9, 65534, 3, 0, 0, 2) ∷ (9, 65534, 3, 65534, 0, 2) ∷ []) 0 1 ∷ holds (c0 ∷ pActive 0x3ff0000000000000 (3 ∷ []) ∷ bBatching 0x3fe6666666666666 (3 ∷ []) ∷ c0 ∷ p0 ∷ b0 ∷ []) ((9, 65534, 3, 0, 0, 1) ∷ (9, 65534, 3, 0, 0, 1) ∷ (9, 65534, 3, 65534, 0, 1) ∷ (9, 65534, 3, 0, 0, 2) ∷ (9, 65534, 3, 0, 0, 2) ∷ (9, 65534, 3, 65534, 0, 2) ∷ []) ∷ ran 2 [] 0 2 ∷ [])
-    (c0 ∷ pActive 0x3ff0000000000000 (3 ∷ 1 ∷ []) ∷ bBatching 0x3fe6666666666666 (3 ∷ []) ∷ parks ((2, 0, 2) ∷ (98, 1000, 2) ∷ []) ∷ pActive 0x4004000000000000 (1 ∷ 2 ∷ 1 ∷ []) ∷ b0 ∷ []) []
+    (c0 ∷ pActive 0x3ff0000000000000 (3 ∷ 1 ∷ 1 ∷ 2 ∷ 2 ∷ []) ∷ bBatching 0x3fe6666666666666 (3 ∷ []) ∷ parks ((2, 0, 2) ∷ (98, 1000, 2) ∷ []) ∷ pActive 0x4004000000000000 (1 ∷ 2 ∷ 1 ∷ []) ∷ b0 ∷ []) []
 unfolding play
 case-025 = refl

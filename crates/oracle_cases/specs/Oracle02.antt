@@ -43,7 +43,7 @@ case-028 = refl
 
 -- 100035
 pub case-029 :
-    play (coup 7 0 ∷ proc 5 0 1 2 2 ∷ coup 4 7 ∷ proc 6 4 1 1 full ∷ []) (link 7 2 5 1 ∷ link 5 2 5 1 ∷ link 5 2 99 3 ∷ []) (inner 7 4 3 4 1 ∷ into 4 1 6 1 ∷ inner 7 4 4 4 1 ∷ inner 7 4 3 4 1 ∷ inner 7 4 3 4 1 ∷ out 7 4 2 2 ∷ inner 4 6 1 6 1 ∷ into 7 1 4 4 ∷ inner 4 6 1 6 1 ∷ into 7 1 4 2 ∷ [])
+    play (coup 7 0 ∷ proc 5 0 1 2 2 ∷ coup 4 7 ∷ proc 6 4 1 1 32 ∷ []) (link 7 2 5 1 ∷ link 5 2 5 1 ∷ link 5 2 99 3 ∷ []) (inner 7 4 3 4 1 ∷ into 4 1 6 1 ∷ inner 7 4 4 4 1 ∷ inner 7 4 3 4 1 ∷ inner 7 4 3 4 1 ∷ out 7 4 2 2 ∷ inner 4 6 1 6 1 ∷ into 7 1 4 4 ∷ inner 4 6 1 6 1 ∷ into 7 1 4 2 ∷ [])
     (0x4010000000000000 ∷ [])
     (inject 65535 3 5 1 0x3fd5555555555555 3 ∷ inject 0 0 7 1 0x3fb999999999999a 3 ∷ job 97 4 1 ∷ step ∷ look ∷ job 5 1 2 ∷ job 7 1 3 ∷ inject 65535 3 5 1 0 3 ∷ step ∷ look ∷ step ∷ [])
     ≡ seen
@@ -65,12 +65,12 @@ case-030 = refl
 
 -- 100038
 pub case-031 :
-    play (coup 6 0 ∷ coup 2 6 ∷ coup 1 2 ∷ bat 7 2 1 1 3 0 ∷ proc 5 0 1 1 8 ∷ proc 8 1 1 2 2 ∷ []) (link 2 2 5 1 ∷ link 6 1 6 1 ∷ []) (into 6 1 2 2 ∷ into 6 1 2 2 ∷ inner 6 2 1 2 2 ∷ out 6 2 3 1 ∷ inner 2 1 1 7 4 ∷ into 2 2 1 1 ∷ into 1 2 8 1 ∷ out 6 2 4 1 ∷ out 6 2 2 1 ∷ out 1 8 2 1 ∷ into 6 1 2 2 ∷ into 1 1 8 1 ∷ into 1 1 8 1 ∷ into 2 2 7 4 ∷ [])
+    play (coup 6 0 ∷ coup 2 6 ∷ coup 1 2 ∷ bat 7 2 1 1 3 0 ∷ proc 5 0 1 1 8 ∷ proc 8 1 1 2 full ∷ []) (link 2 2 5 1 ∷ link 6 1 6 1 ∷ []) (into 6 1 2 2 ∷ into 6 1 2 2 ∷ inner 6 2 1 2 2 ∷ out 6 2 3 1 ∷ inner 2 1 1 7 4 ∷ into 2 2 1 1 ∷ into 1 2 8 1 ∷ out 6 2 4 1 ∷ out 6 2 2 1 ∷ out 1 8 2 1 ∷ into 6 1 2 2 ∷ into 1 1 8 1 ∷ into 1 1 8 1 ∷ into 2 2 7 4 ∷ [])
     (0x4010000000000000 ∷ 0x3fd3333333333333 ∷ 0x4004000000000000 ∷ 0x4010000000000000 ∷ 0x401c000000000000 ∷ [])
     (job 5 1 3 ∷ step ∷ look ∷ reset-messages ∷ reset-global-time ∷ step ∷ look ∷ until 0x4008000000000000 501 ∷ look ∷ job 5 1 3 ∷ job 6 1 1 ∷ steps 2 ∷ look ∷ step ∷ look ∷ steps 1 ∷ [])
     ≡ seen
-    (ran 1 [] 0 1 ∷ holds (c0 ∷ c0 ∷ c0 ∷ b0 ∷ pActive 0x4010000000000000 (3 ∷ []) ∷ p0 ∷ []) [] ∷ ran 1 [] 0x4010000000000000 1 ∷ holds (c0 ∷ c0 ∷ c0 ∷ b0 ∷ pPassive 0 [] ∷ p0 ∷ []) [] ∷ reached 1 [] 0x4010000000000000 1 ∷ holds (c0 ∷ c0 ∷ c0 ∷ b0 ∷ p0 ∷ p0 ∷ []) [] ∷ ran 2 [] 0x4011333333333333 3 ∷ holds (c0 ∷ parks ((7, 4, 1) ∷ []) ∷ c0 ∷ b0 ∷ pActive 0x400199999999999a (3 ∷ []) ∷ pPassive 0 (1 ∷ []) ∷ []) [] ∷ ran 1 [] 0x4011333333333333 4 ∷ holds (c0 ∷ c0 ∷ c0 ∷ b0 ∷ pActive 0x400199999999999a (3 ∷ []) ∷ pActive 0x4010000000000000 (1 ∷ []) ∷ []) [] ∷ ran 1 [] 0x401a000000000000 4 ∷ [])
-    (c0 ∷ c0 ∷ c0 ∷ b0 ∷ pPassive 0 [] ∷ pActive 0x3ffccccccccccccc (1 ∷ []) ∷ []) []
+    (ran 1 [] 0 1 ∷ holds (c0 ∷ c0 ∷ c0 ∷ b0 ∷ pActive 0x4010000000000000 (3 ∷ []) ∷ p0 ∷ []) [] ∷ ran 1 [] 0x4010000000000000 1 ∷ holds (c0 ∷ c0 ∷ c0 ∷ b0 ∷ pPassive 0 [] ∷ p0 ∷ []) [] ∷ reached 1 [] 0x4010000000000000 1 ∷ holds (c0 ∷ c0 ∷ c0 ∷ b0 ∷ p0 ∷ p0 ∷ []) [] ∷ ran 2 [] 0x4011333333333333 3 ∷ holds (c0 ∷ parks ((7, 4, 1) ∷ []) ∷ c0 ∷ b0 ∷ pActive 0x400199999999999a (3 ∷ []) ∷ pPassive 0 (1 ∷ 1 ∷ 1 ∷ 1 ∷ 1 ∷ []) ∷ []) [] ∷ ran 1 [] 0x4011333333333333 4 ∷ holds (c0 ∷ c0 ∷ c0 ∷ b0 ∷ pActive 0x400199999999999a (3 ∷ []) ∷ pActive 0x4010000000000000 (1 ∷ 1 ∷ 1 ∷ 1 ∷ 1 ∷ []) ∷ []) [] ∷ ran 1 [] 0x401a000000000000 4 ∷ [])
+    (c0 ∷ c0 ∷ c0 ∷ b0 ∷ pPassive 0 [] ∷ pActive 0x3ffccccccccccccc (1 ∷ 1 ∷ 1 ∷ 1 ∷ 1 ∷ []) ∷ []) []
 unfolding play
 case-031 = refl
 
@@ -122,7 +122,7 @@ case-035 = refl
 pub case-036 :
     play (least 5 0 3 1 2 2 ∷ least 2 0 2 4 1 2 ∷ most 9 0 2 1 3 2 ∷ least 6 0 3 4 2 1 ∷ proc 1 0 1 1 1 ∷ coup 3 0 ∷ []) (link 9 2 6 2 ∷ link 1 1 9 1 ∷ link 5 2 9 3 ∷ link 5 2 5 3 ∷ link 2 2 5 1 ∷ link 9 2 5 2 ∷ link 1 1 2 2 ∷ link 1 1 5 1 ∷ link 5 2 9 2 ∷ link 6 1 2 4 ∷ link 5 2 1 1 ∷ link 6 1 2 1 ∷ link 2 2 5 2 ∷ link 5 2 2 1 ∷ link 6 1 3 2 ∷ link 1 1 2 2 ∷ []) []
     (0 ∷ 0x401c000000000000 ∷ [])
-    (inject 0 0 5 3 0x401c000000000000 1 ∷ job 9 1 2 ∷ job 3 2 2 ∷ job 6 4 3 ∷ inject 0 0 5 2 0x3ff0000000000000 3 ∷ job 5 1 2 ∷ status 96 ∷ steps 1 ∷ look ∷ job 3 1 1 ∷ until 0x3ff0000000000000 1 ∷ look ∷ job 1 1 3 ∷ job 1 1 3 ∷ reset-global-time ∷ until 0 2 ∷ look ∷ step ∷ look ∷ inject 0 0 1 1 0x401c000000000000 1 ∷ inject 0 0 9 2 0x401c000000000000 3 ∷ put-in (bat 8 0 1 2 1 0x4004000000000000 ∷ proc 7 0 1 2 full ∷ proc 5 0 1 1 2 ∷ proc 9 0 1 2 8 ∷ bat 1 0 1 1 2 0x3fd5555555555555 ∷ coup 4 0 ∷ []) (link 9 2 5 1 ∷ link 1 1 5 1 ∷ link 7 2 8 2 ∷ link 5 1 1 1 ∷ link 4 1 8 4 ∷ link 7 2 8 2 ∷ []) [] ∷ steps 2 ∷ [])
+    (inject 0 0 5 3 0x401c000000000000 1 ∷ job 9 1 2 ∷ job 3 2 2 ∷ job 6 4 3 ∷ inject 0 0 5 2 0x3ff0000000000000 3 ∷ job 5 1 2 ∷ status 96 ∷ steps 1 ∷ look ∷ job 3 1 1 ∷ until 0x3ff0000000000000 1 ∷ look ∷ job 1 1 3 ∷ job 1 1 3 ∷ reset-global-time ∷ until 0 2 ∷ look ∷ step ∷ look ∷ inject 0 0 1 1 0x401c000000000000 1 ∷ inject 0 0 9 2 0x401c000000000000 3 ∷ put-in (bat 8 0 1 2 1 0x4004000000000000 ∷ proc 7 0 1 2 32 ∷ proc 5 0 1 1 full ∷ proc 9 0 1 2 8 ∷ bat 1 0 1 1 2 0x3fd5555555555555 ∷ coup 4 0 ∷ []) (link 9 2 5 1 ∷ link 1 1 5 1 ∷ link 7 2 8 2 ∷ link 5 1 1 1 ∷ link 4 1 8 4 ∷ link 7 2 8 2 ∷ []) [] ∷ steps 2 ∷ [])
     ≡ seen
     (refuses 4 ∷ ran 1 [] 0 0 ∷ holds (sPassive inf ((1, some 0, none) ∷ (2, none, some 0) ∷ []) ∷ s0 ∷ sPassive inf ((2, none, some 0) ∷ []) ∷ sPassive inf ((3, none, some 0) ∷ []) ∷ p0 ∷ c0 ∷ []) [] ∷ spent 1 [] 0 0 ∷ holds (sPassive inf ((1, some 0, none) ∷ (2, none, some 0) ∷ []) ∷ s0 ∷ sPassive inf ((2, none, some 0) ∷ []) ∷ sPassive inf ((3, none, some 0) ∷ []) ∷ p0 ∷ c0 ∷ []) [] ∷ reached 1 [] 0 1 ∷ holds (sPassive inf ((1, some 0, none) ∷ (2, none, some 0) ∷ []) ∷ s0 ∷ sPassive inf ((2, none, some 0) ∷ []) ∷ sPassive inf ((3, none, some 0) ∷ []) ∷ pPassive 0 [] ∷ c0 ∷ []) ((1, 1, 9, 1, 0, 3) ∷ (1, 1, 2, 2, 0, 3) ∷ (1, 1, 5, 1, 0, 3) ∷ (1, 1, 2, 2, 0, 3) ∷ []) ∷ ran 1 [] 0 1 ∷ holds (sPassive inf ((1, some 0, none) ∷ (2, none, some 0) ∷ (3, none, some 0) ∷ []) ∷ sPassive inf ((3, some 0, none) ∷ []) ∷ sPassive inf ((2, none, some 0) ∷ (3, none, some 0) ∷ []) ∷ sPassive inf ((3, none, some 0) ∷ []) ∷ p0 ∷ c0 ∷ []) [] ∷ stopped 5 0 [] 0 1 ∷ [])
     (b0 ∷ p0 ∷ p0 ∷ p0 ∷ b0 ∷ c0 ∷ []) ((0, 0, 1, 1, 0x401c000000000000, 1) ∷ (0, 0, 9, 2, 0x401c000000000000, 3) ∷ [])
@@ -131,7 +131,7 @@ case-036 = refl
 
 -- 100046
 pub case-037 :
-    play (coup 8 0 ∷ proc 3 8 1 1 0 ∷ bat 2 8 1 2 4611686018427387904 0 ∷ proc 1 8 1 2 full ∷ []) (link 8 3 99 4 ∷ link 8 3 99 2 ∷ link 8 1 99 3 ∷ []) (into 8 1 1 1 ∷ into 8 1 1 1 ∷ inner 8 3 1 1 1 ∷ into 8 2 1 1 ∷ inner 8 2 2 3 1 ∷ [])
+    play (coup 8 0 ∷ proc 3 8 1 1 0 ∷ bat 2 8 1 2 4611686018427387904 0 ∷ proc 1 8 1 2 32 ∷ []) (link 8 3 99 4 ∷ link 8 3 99 2 ∷ link 8 1 99 3 ∷ []) (into 8 1 1 1 ∷ into 8 1 1 1 ∷ inner 8 3 1 1 1 ∷ into 8 2 1 1 ∷ inner 8 2 2 3 1 ∷ [])
     (0 ∷ 0x3e112e0be826d695 ∷ 0x4028b0a3d70a3d71 ∷ 0 ∷ 0x401c000000000000 ∷ 0x3e112e0be826d695 ∷ [])
     (inject 0 0 8 2 0x3fb999999999999a 3 ∷ job 8 2 1 ∷ job 8 4 1 ∷ job 8 1 2 ∷ inject 0 0 8 1 0x3fd2492492492492 3 ∷ until 0x4010000000000000 5 ∷ look ∷ steps 3 ∷ look ∷ steps 3 ∷ [])
     ≡ seen
@@ -153,9 +153,9 @@ case-038 = refl
 
 -- 100048
 pub case-039 :
-    play (bat 3 0 1 2 1 0x401c000000000000 ∷ proc 2 0 1 2 full ∷ []) (link 2 2 99 2 ∷ link 3 2 99 2 ∷ link 2 2 99 1 ∷ link 3 2 2 1 ∷ link 3 2 99 3 ∷ []) []
+    play (bat 3 0 1 2 1 0x401c000000000000 ∷ proc 2 0 1 2 32 ∷ []) (link 2 2 99 2 ∷ link 3 2 99 2 ∷ link 2 2 99 1 ∷ link 3 2 2 1 ∷ link 3 2 99 3 ∷ []) []
     (0 ∷ 0 ∷ [])
-    (inject 5 3 3 1 0 3 ∷ job 2 1 1 ∷ job 2 1 1 ∷ job 2 1 3 ∷ step ∷ look ∷ steps 1 ∷ look ∷ job 3 1 2 ∷ job 2 3 2 ∷ job 3 4 2 ∷ reset-global-time ∷ put-in (coup 2 0 ∷ proc 8 2 1 2 2 ∷ proc 6 2 1 2 2 ∷ proc 9 2 1 2 full ∷ []) (link 2 1 99 4 ∷ link 8 2 2 1 ∷ link 2 1 2 2 ∷ []) (into 2 1 8 1 ∷ inner 2 9 2 8 1 ∷ inner 2 9 2 6 1 ∷ inner 2 6 2 8 1 ∷ into 2 2 6 1 ∷ inner 2 8 2 8 1 ∷ []) ∷ step ∷ [])
+    (inject 5 3 3 1 0 3 ∷ job 2 1 1 ∷ job 2 1 1 ∷ job 2 1 3 ∷ step ∷ look ∷ steps 1 ∷ look ∷ job 3 1 2 ∷ job 2 3 2 ∷ job 3 4 2 ∷ reset-global-time ∷ put-in (coup 2 0 ∷ proc 8 2 1 2 full ∷ proc 6 2 1 2 2 ∷ proc 9 2 1 2 32 ∷ []) (link 2 1 99 4 ∷ link 8 2 2 1 ∷ link 2 1 2 2 ∷ []) (into 2 1 8 1 ∷ inner 2 9 2 8 1 ∷ inner 2 9 2 6 1 ∷ inner 2 6 2 8 1 ∷ into 2 2 6 1 ∷ inner 2 8 2 8 1 ∷ []) ∷ step ∷ [])
     ≡ seen
     (ran 1 ((3, 2, 99, 2, 0, 3) ∷ (3, 2, 2, 1, 0, 3) ∷ (3, 2, 99, 3, 0, 3) ∷ (2, 2, 99, 2, 0, 1) ∷ (2, 2, 99, 1, 0, 1) ∷ []) 0 1 ∷ holds (b0 ∷ pPassive 0 (1 ∷ 3 ∷ []) ∷ []) ((3, 2, 99, 2, 0, 3) ∷ (3, 2, 2, 1, 0, 3) ∷ (3, 2, 99, 3, 0, 3) ∷ (2, 2, 99, 2, 0, 1) ∷ (2, 2, 99, 1, 0, 1) ∷ []) ∷ ran 1 [] 0 2 ∷ holds (b0 ∷ pActive 0 (1 ∷ 3 ∷ 3 ∷ []) ∷ []) [] ∷ ran 1 [] 0 2 ∷ [])
     (c0 ∷ p0 ∷ p0 ∷ p0 ∷ []) []
@@ -164,9 +164,9 @@ case-039 = refl
 
 -- 100049
 pub case-040 :
-    play (coup 4096 0 ∷ coup 256 4096 ∷ bat 65534 256 1 1 3 0x4004000000000000 ∷ proc 255 256 1 1 2 ∷ []) (link 4096 2 99 2 ∷ link 4096 1 4096 1 ∷ link 4096 1 4096 1 ∷ []) (inner 4096 256 2 256 1 ∷ out 4096 256 2 1 ∷ inner 256 65534 1 65534 4 ∷ into 4096 1 256 1 ∷ into 256 1 65534 2 ∷ inner 256 255 1 65534 3 ∷ inner 256 255 1 98 2 ∷ out 256 255 1 2 ∷ inner 4096 256 2 98 3 ∷ out 4096 256 2 2 ∷ inner 4096 256 2 256 1 ∷ [])
+    play (coup 4096 0 ∷ coup 256 4096 ∷ bat 65534 256 1 1 3 0x4004000000000000 ∷ proc 255 256 1 1 full ∷ []) (link 4096 2 99 2 ∷ link 4096 1 4096 1 ∷ link 4096 1 4096 1 ∷ []) (inner 4096 256 2 256 1 ∷ out 4096 256 2 1 ∷ inner 256 65534 1 65534 4 ∷ into 4096 1 256 1 ∷ into 256 1 65534 2 ∷ inner 256 255 1 65534 3 ∷ inner 256 255 1 98 2 ∷ out 256 255 1 2 ∷ inner 4096 256 2 98 3 ∷ out 4096 256 2 2 ∷ inner 4096 256 2 256 1 ∷ [])
     (0x3ff0000000000000 ∷ 0x4028b0a3d70a3d71 ∷ 0 ∷ [])
-    (inject 0 0 4096 1 0x4028b0a3d70a3d71 3 ∷ inject 65535 3 4096 1 0x4004000000000000 3 ∷ steps 2 ∷ look ∷ job 4096 1 1 ∷ job 4096 1 3 ∷ put-in (most 4096 0 4 1 2 1 ∷ proc 257 0 1 1 2 ∷ proc 32768 0 1 1 full ∷ proc 255 0 1 2 1 ∷ bat 1 0 1 2 4611686018427387904 0x4004000000000000 ∷ bat 256 0 1 1 2 0 ∷ coup 2 0 ∷ []) (link 32768 1 256 2 ∷ link 4096 1 255 1 ∷ link 256 1 4096 4 ∷ link 257 1 4096 1 ∷ link 255 2 32768 1 ∷ link 256 1 257 1 ∷ link 257 1 32768 1 ∷ link 1 2 4096 2 ∷ link 2 4 32768 1 ∷ link 256 1 4096 2 ∷ link 257 1 1 2 ∷ link 4096 1 257 1 ∷ []) [] ∷ inject 0 0 32768 1 0x4004000000000000 2 ∷ inject 0 0 255 1 0x4010000000000000 1 ∷ job 256 4 3 ∷ until 0x4004cccccccccccd 2 ∷ [])
+    (inject 0 0 4096 1 0x4028b0a3d70a3d71 3 ∷ inject 65535 3 4096 1 0x4004000000000000 3 ∷ steps 2 ∷ look ∷ job 4096 1 1 ∷ job 4096 1 3 ∷ put-in (most 4096 0 4 1 2 1 ∷ proc 257 0 1 1 full ∷ proc 32768 0 1 1 32 ∷ proc 255 0 1 2 1 ∷ bat 1 0 1 2 4611686018427387904 0x4004000000000000 ∷ bat 256 0 1 1 2 0 ∷ coup 2 0 ∷ []) (link 32768 1 256 2 ∷ link 4096 1 255 1 ∷ link 256 1 4096 4 ∷ link 257 1 4096 1 ∷ link 255 2 32768 1 ∷ link 256 1 257 1 ∷ link 257 1 32768 1 ∷ link 1 2 4096 2 ∷ link 2 4 32768 1 ∷ link 256 1 4096 2 ∷ link 257 1 1 2 ∷ link 4096 1 257 1 ∷ []) [] ∷ inject 0 0 32768 1 0x4004000000000000 2 ∷ inject 0 0 255 1 0x4010000000000000 1 ∷ job 256 4 3 ∷ until 0x4004cccccccccccd 2 ∷ [])
     ≡ seen
     (ran 2 [] 0x4004000000000000 0 ∷ holds (c0 ∷ parks ((65534, 4, 3) ∷ (65534, 4, 3) ∷ []) ∷ b0 ∷ p0 ∷ []) [] ∷ spent 2 ((256, 1, 4096, 4, 0x4004000000000000, 3) ∷ (256, 1, 257, 1, 0x4004000000000000, 3) ∷ (256, 1, 4096, 2, 0x4004000000000000, 3) ∷ (4096, 1, 255, 1, 0x4004000000000000, 3) ∷ (4096, 1, 257, 1, 0x4004000000000000, 3) ∷ (257, 1, 4096, 1, 0x4004000000000000, 3) ∷ (257, 1, 32768, 1, 0x4004000000000000, 3) ∷ (257, 1, 1, 2, 0x4004000000000000, 3) ∷ []) 0x4004000000000000 3 ∷ [])
     (sPassive inf ((1, none, some 0x4004000000000000) ∷ (3, some 0x4004000000000000, some 0x4004000000000000) ∷ []) ∷ pPassive 0 [] ∷ pActive 0x3ff0000000000000 (2 ∷ []) ∷ pActive 0x4028b0a3d70a3d71 (1 ∷ []) ∷ b0 ∷ b0 ∷ c0 ∷ []) ((4096, 1, 255, 1, 0x4004000000000000, 3) ∷ (4096, 1, 257, 1, 0x4004000000000000, 3) ∷ (257, 1, 4096, 1, 0x4004000000000000, 3) ∷ (257, 1, 32768, 1, 0x4004000000000000, 3) ∷ (257, 1, 1, 2, 0x4004000000000000, 3) ∷ [])
@@ -197,7 +197,7 @@ case-042 = refl
 
 -- 100053
 pub case-043 :
-    play (bat 4 0 1 1 1 0x3fb999999999999a ∷ proc 8 0 1 2 1 ∷ proc 7 0 1 2 full ∷ bat 1 0 1 1 3 0 ∷ []) (link 7 2 8 1 ∷ link 8 2 7 1 ∷ []) []
+    play (bat 4 0 1 1 1 0x3fb999999999999a ∷ proc 8 0 1 2 1 ∷ proc 7 0 1 2 32 ∷ bat 1 0 1 1 3 0 ∷ []) (link 7 2 8 1 ∷ link 8 2 7 1 ∷ []) []
     (0 ∷ 0x4004000000000000 ∷ 0x3fe6666666666666 ∷ 0x3fb999999999999a ∷ 0x4004000000000000 ∷ [])
     (job 4 4 2 ∷ inject 0 0 8 1 0x4010000000000000 1 ∷ job 8 1 1 ∷ step ∷ look ∷ steps 2 ∷ look ∷ until 0x401a000000000000 5 ∷ [])
     ≡ seen
@@ -208,7 +208,7 @@ case-043 = refl
 
 -- 100054
 pub case-044 :
-    play (most 32768 0 4 1 3 1 ∷ proc 256 0 1 1 2 ∷ proc 4096 0 1 2 full ∷ proc 65535 0 1 1 full ∷ bat 2 0 1 2 1 0x4004000000000000 ∷ proc 65534 0 1 1 3 ∷ []) (link 256 1 32768 3 ∷ link 65534 1 4096 1 ∷ link 4096 2 32768 4 ∷ link 2 2 4096 1 ∷ link 32768 1 256 1 ∷ []) []
+    play (most 32768 0 4 1 3 1 ∷ proc 256 0 1 1 full ∷ proc 4096 0 1 2 32 ∷ proc 65535 0 1 1 32 ∷ bat 2 0 1 2 1 0x4004000000000000 ∷ proc 65534 0 1 1 3 ∷ []) (link 256 1 32768 3 ∷ link 65534 1 4096 1 ∷ link 4096 2 32768 4 ∷ link 2 2 4096 1 ∷ link 32768 1 256 1 ∷ []) []
     (0x3fe6666666666666 ∷ 0x3fb999999999999a ∷ 0x3e112e0be826d695 ∷ 0x3fd2492492492492 ∷ 0x4010000000000000 ∷ 0x3fe6666666666666 ∷ 0x3fb999999999999a ∷ [])
     (inject 0 0 256 1 0x3fd3333333333333 1 ∷ inject 0 0 65535 1 0x3fb999999999999a 3 ∷ job 65535 1 3 ∷ job 65534 1 1 ∷ until 0x4004000000000000 11 ∷ look ∷ step ∷ look ∷ job 32768 1 2 ∷ inject 5 3 65534 1 0 1 ∷ step ∷ [])
     ≡ seen
@@ -219,7 +219,7 @@ case-044 = refl
 
 -- 100055
 pub case-045 :
-    play (coup 257 0 ∷ coup 65534 257 ∷ bat 255 65534 1 1 2 0x4010000000000000 ∷ bat 2 0 1 1 3 0x401c000000000000 ∷ bat 32768 257 1 2 3 0x3fe6666666666666 ∷ proc 65535 257 1 1 full ∷ []) (link 2 1 99 1 ∷ link 2 1 257 2 ∷ []) (into 65534 1 255 4 ∷ into 65534 2 255 2 ∷ inner 257 65535 1 65535 1 ∷ into 257 1 65535 1 ∷ inner 65534 255 1 255 3 ∷ out 65534 255 1 2 ∷ inner 257 65535 1 65535 1 ∷ [])
+    play (coup 257 0 ∷ coup 65534 257 ∷ bat 255 65534 1 1 2 0x4010000000000000 ∷ bat 2 0 1 1 3 0x401c000000000000 ∷ bat 32768 257 1 2 3 0x3fe6666666666666 ∷ proc 65535 257 1 1 32 ∷ []) (link 2 1 99 1 ∷ link 2 1 257 2 ∷ []) (into 65534 1 255 4 ∷ into 65534 2 255 2 ∷ inner 257 65535 1 65535 1 ∷ into 257 1 65535 1 ∷ inner 65534 255 1 255 3 ∷ out 65534 255 1 2 ∷ inner 257 65535 1 65535 1 ∷ [])
     (0x401c000000000000 ∷ 0x3fe6666666666666 ∷ [])
     (job 2 1 3 ∷ job 2 2 1 ∷ job 257 1 3 ∷ job 257 1 2 ∷ job 2 1 1 ∷ steps 3 ∷ look ∷ step ∷ [])
     ≡ seen
@@ -230,7 +230,7 @@ case-045 = refl
 
 -- 100056
 pub case-046 :
-    play (proc 4096 0 1 2 3 ∷ coup 255 0 ∷ least 1 255 2 3 4 1 ∷ bat 257 255 1 2 4 0x3fd5555555555555 ∷ proc 65534 255 1 1 2 ∷ bat 65535 255 1 1 2 0x3fe6666666666666 ∷ []) (link 4096 2 255 3 ∷ link 255 1 255 1 ∷ link 4096 2 255 1 ∷ []) (out 255 65535 1 1 ∷ into 255 1 65534 1 ∷ into 255 3 1 4 ∷ out 255 65534 1 1 ∷ into 255 1 257 1 ∷ into 255 1 1 2 ∷ into 255 2 1 3 ∷ [])
+    play (proc 4096 0 1 2 3 ∷ coup 255 0 ∷ least 1 255 2 3 4 1 ∷ bat 257 255 1 2 4 0x3fd5555555555555 ∷ proc 65534 255 1 1 full ∷ bat 65535 255 1 1 2 0x3fe6666666666666 ∷ []) (link 4096 2 255 3 ∷ link 255 1 255 1 ∷ link 4096 2 255 1 ∷ []) (out 255 65535 1 1 ∷ into 255 1 65534 1 ∷ into 255 3 1 4 ∷ out 255 65534 1 1 ∷ into 255 1 257 1 ∷ into 255 1 1 2 ∷ into 255 2 1 3 ∷ [])
     (0x4004000000000000 ∷ 0x4004000000000000 ∷ [])
     (inject 0 0 255 1 0x3e112e0be826d695 3 ∷ step ∷ look ∷ steps 2 ∷ look ∷ step ∷ [])
     ≡ seen
@@ -263,9 +263,9 @@ case-048 = refl
 
 -- 100060
 pub case-049 :
-    play (coup 1 0 ∷ coup 6 1 ∷ coup 4 6 ∷ proc 2 0 0 65535 0 ∷ bat 3 4 0 0 1 0x3fd5555555555555 ∷ proc 8 1 0 0 full ∷ bat 9 1 0 65535 2 0x3ff0000000000000 ∷ []) (link 9 65535 1 0 ∷ link 2 65535 1 32768 ∷ link 1 0 1 0 ∷ link 1 0 2 0 ∷ []) (inner 6 4 0 4 65535 ∷ inner 6 4 0 4 65535 ∷ into 1 0 6 65535 ∷ into 6 65535 4 65535 ∷ inner 1 8 0 98 0 ∷ into 6 0 4 65535 ∷ out 6 4 0 0 ∷ out 4 3 0 0 ∷ into 4 65535 3 65535 ∷ out 1 6 0 0 ∷ into 6 65535 4 65535 ∷ [])
+    play (coup 1 0 ∷ coup 6 1 ∷ coup 4 6 ∷ proc 2 0 0 65535 0 ∷ bat 3 4 0 0 1 0x3fd5555555555555 ∷ proc 8 1 0 0 32 ∷ bat 9 1 0 65535 2 0x3ff0000000000000 ∷ []) (link 9 65535 1 0 ∷ link 2 65535 1 32768 ∷ link 1 0 1 0 ∷ link 1 0 2 0 ∷ []) (inner 6 4 0 4 65535 ∷ inner 6 4 0 4 65535 ∷ into 1 0 6 65535 ∷ into 6 65535 4 65535 ∷ inner 1 8 0 98 0 ∷ into 6 0 4 65535 ∷ out 6 4 0 0 ∷ out 4 3 0 0 ∷ into 4 65535 3 65535 ∷ out 1 6 0 0 ∷ into 6 65535 4 65535 ∷ [])
     (0x3fd3333333333333 ∷ [])
-    (inject 0 0 2 0 0x4010000000000000 7 ∷ job 2 0 0 ∷ job 1 32768 4294967295 ∷ job 1 0 0 ∷ inject 65535 3 1 1 0 7 ∷ inject 0 0 1 0 0x3e112e0be826d695 7 ∷ put-in (coup 6 0 ∷ coup 5 6 ∷ coup 3 5 ∷ proc 8 3 0 65535 3 ∷ proc 9 0 0 0 full ∷ proc 1 6 0 65535 2 ∷ []) (link 6 65535 9 0 ∷ link 6 65535 6 0 ∷ link 9 0 6 0 ∷ link 6 65535 9 0 ∷ []) (out 5 3 65535 0 ∷ inner 6 5 0 5 0 ∷ into 6 0 5 0 ∷ inner 6 5 0 98 1 ∷ out 6 5 0 65535 ∷ into 3 0 8 65000 ∷ into 5 0 3 65535 ∷ out 3 8 65535 65535 ∷ inner 6 5 0 5 0 ∷ into 6 0 1 0 ∷ inner 6 1 65535 5 0 ∷ out 5 3 0 0 ∷ into 5 0 3 0 ∷ []) ∷ step ∷ look ∷ inject 5 3 9 0 0 0 ∷ inject 0 0 6 0 0x3fd3333333333333 2147483648 ∷ step ∷ [])
+    (inject 0 0 2 0 0x4010000000000000 7 ∷ job 2 0 0 ∷ job 1 32768 4294967295 ∷ job 1 0 0 ∷ inject 65535 3 1 1 0 7 ∷ inject 0 0 1 0 0x3e112e0be826d695 7 ∷ put-in (coup 6 0 ∷ coup 5 6 ∷ coup 3 5 ∷ proc 8 3 0 65535 3 ∷ proc 9 0 0 0 32 ∷ proc 1 6 0 65535 full ∷ []) (link 6 65535 9 0 ∷ link 6 65535 6 0 ∷ link 9 0 6 0 ∷ link 6 65535 9 0 ∷ []) (out 5 3 65535 0 ∷ inner 6 5 0 5 0 ∷ into 6 0 5 0 ∷ inner 6 5 0 98 1 ∷ out 6 5 0 65535 ∷ into 3 0 8 65000 ∷ into 5 0 3 65535 ∷ out 3 8 65535 65535 ∷ inner 6 5 0 5 0 ∷ into 6 0 1 0 ∷ inner 6 1 65535 5 0 ∷ out 5 3 0 0 ∷ into 5 0 3 0 ∷ []) ∷ step ∷ look ∷ inject 5 3 9 0 0 0 ∷ inject 0 0 6 0 0x3fd3333333333333 2147483648 ∷ step ∷ [])
     ≡ seen
     (ran 1 [] 0 0 ∷ holds (c0 ∷ c0 ∷ c0 ∷ p0 ∷ p0 ∷ p0 ∷ []) [] ∷ stopped 5 0 [] 0 0 ∷ [])
     (c0 ∷ c0 ∷ c0 ∷ p0 ∷ p0 ∷ p0 ∷ []) ((5, 3, 9, 0, 0, 0) ∷ (0, 0, 6, 0, 0x3fd3333333333333, 2147483648) ∷ [])

@@ -109,7 +109,7 @@ case-084 = refl
 
 -- 100106
 pub case-085 :
-    play (proc 4 0 1 1 2 ∷ most 5 0 3 4 2 1 ∷ proc 7 0 1 1 8 ∷ proc 8 0 1 2 2 ∷ proc 2 0 1 1 1 ∷ []) (link 8 2 2 1 ∷ link 4 1 8 9 ∷ link 8 2 5 3 ∷ link 2 1 4 1 ∷ link 7 1 5 4 ∷ link 4 1 5 2 ∷ link 5 1 8 1 ∷ link 5 1 8 1 ∷ []) []
+    play (proc 4 0 1 1 2 ∷ most 5 0 3 4 2 1 ∷ proc 7 0 1 1 8 ∷ proc 8 0 1 2 full ∷ proc 2 0 1 1 1 ∷ []) (link 8 2 2 1 ∷ link 4 1 8 9 ∷ link 8 2 5 3 ∷ link 2 1 4 1 ∷ link 7 1 5 4 ∷ link 4 1 5 2 ∷ link 5 1 8 1 ∷ link 5 1 8 1 ∷ []) []
     (0x401c000000000000 ∷ [])
     (inject 0 0 5 3 0x3fe6666666666666 3 ∷ steps 1 ∷ look ∷ job 4 1 1 ∷ until 0 2 ∷ look ∷ steps 3 ∷ [])
     ≡ seen
@@ -120,7 +120,7 @@ case-085 = refl
 
 -- 100108
 pub case-086 :
-    play (coup 4096 0 ∷ proc 65534 4096 1 1 1 ∷ proc 32768 4096 1 2 full ∷ proc 65535 4096 1 2 2 ∷ []) (link 4096 1 4096 1 ∷ link 32768 2 4096 1 ∷ link 4096 1 99 3 ∷ []) (out 4096 32768 2 1 ∷ into 4096 1 65535 1 ∷ into 4096 1 32768 1 ∷ into 4096 1 65535 1 ∷ [])
+    play (coup 4096 0 ∷ proc 65534 4096 1 1 1 ∷ proc 32768 4096 1 2 32 ∷ proc 65535 4096 1 2 2 ∷ []) (link 4096 1 4096 1 ∷ link 32768 2 4096 1 ∷ link 4096 1 99 3 ∷ []) (out 4096 32768 2 1 ∷ into 4096 1 65535 1 ∷ into 4096 1 32768 1 ∷ into 4096 1 65535 1 ∷ [])
     []
     (steps 0 ∷ [])
     ≡ seen
@@ -208,7 +208,7 @@ case-093 = refl
 
 -- 100119
 pub case-094 :
-    play (coup 8 0 ∷ proc 1 8 1 1 1 ∷ least 3 8 3 2 4 1 ∷ coup 4 8 ∷ proc 9 8 1 2 full ∷ []) (link 8 1 99 4 ∷ link 8 1 8 1 ∷ []) (into 8 3 3 4 ∷ into 8 2 3 2 ∷ out 8 3 1 1 ∷ into 8 1 9 1 ∷ inner 8 1 1 3 3 ∷ into 8 1 3 3 ∷ [])
+    play (coup 8 0 ∷ proc 1 8 1 1 1 ∷ least 3 8 3 2 4 1 ∷ coup 4 8 ∷ proc 9 8 1 2 32 ∷ []) (link 8 1 99 4 ∷ link 8 1 8 1 ∷ []) (into 8 3 3 4 ∷ into 8 2 3 2 ∷ out 8 3 1 1 ∷ into 8 1 9 1 ∷ inner 8 1 1 3 3 ∷ into 8 1 3 3 ∷ [])
     (0x4028b0a3d70a3d71 ∷ 0x3fb999999999999a ∷ [])
     (job 8 4 3 ∷ job 8 2 1 ∷ job 8 1 1 ∷ job 8 1 3 ∷ inject 0 0 8 1 0x401c000000000000 2 ∷ job 8 1 3 ∷ job 8 1 1 ∷ job 8 3 1 ∷ job 8 3 2 ∷ job 8 2 1 ∷ job 8 2 3 ∷ steps 4 ∷ [])
     ≡ seen
@@ -230,9 +230,9 @@ case-095 = refl
 
 -- 100122
 pub case-096 :
-    play (least 8 0 255 32768 1 255 ∷ proc 9 0 255 255 2 ∷ proc 5 0 255 255 1 ∷ most 7 0 255 1 1000 255 ∷ proc 4 0 255 255 full ∷ []) (link 9 255 5 255 ∷ link 5 255 4 255 ∷ link 5 255 7 255 ∷ link 7 255 99 32768 ∷ link 9 255 8 32768 ∷ link 5 255 7 255 ∷ link 5 255 8 255 ∷ link 4 255 5 255 ∷ link 7 255 7 1 ∷ link 4 255 8 1 ∷ link 8 255 8 1 ∷ link 9 255 7 1000 ∷ link 9 255 99 32768 ∷ []) []
+    play (least 8 0 255 32768 1 255 ∷ proc 9 0 255 255 2 ∷ proc 5 0 255 255 1 ∷ most 7 0 255 1 1000 255 ∷ proc 4 0 255 255 32 ∷ []) (link 9 255 5 255 ∷ link 5 255 4 255 ∷ link 5 255 7 255 ∷ link 7 255 99 32768 ∷ link 9 255 8 32768 ∷ link 5 255 7 255 ∷ link 5 255 8 255 ∷ link 4 255 5 255 ∷ link 7 255 7 1 ∷ link 4 255 8 1 ∷ link 8 255 8 1 ∷ link 9 255 7 1000 ∷ link 9 255 99 32768 ∷ []) []
     (0 ∷ [])
-    (job 5 255 1 ∷ step ∷ look ∷ put-in (least 7 0 255 32768 1 255 ∷ proc 2 0 255 255 2 ∷ bat 8 0 255 1000 4611686018427387904 0x3e112e0be826d695 ∷ least 6 0 32768 255 1 255 ∷ proc 5 0 255 255 2 ∷ proc 1 0 255 1000 8 ∷ bat 9 0 255 1000 2 0 ∷ []) (link 5 255 8 32768 ∷ link 2 255 6 32768 ∷ link 2 255 7 1 ∷ link 2 255 9 1000 ∷ link 2 255 1 255 ∷ link 1 1000 6 1 ∷ link 8 1000 8 255 ∷ link 1 1000 2 255 ∷ link 9 1000 7 32768 ∷ link 6 255 9 255 ∷ link 7 255 5 255 ∷ link 1 1000 7 255 ∷ link 8 1000 6 255 ∷ link 6 255 5 255 ∷ []) [] ∷ step ∷ look ∷ until 0x4024000000000000 7 ∷ [])
+    (job 5 255 1 ∷ step ∷ look ∷ put-in (least 7 0 255 32768 1 255 ∷ proc 2 0 255 255 2 ∷ bat 8 0 255 1000 4611686018427387904 0x3e112e0be826d695 ∷ least 6 0 32768 255 1 255 ∷ proc 5 0 255 255 full ∷ proc 1 0 255 1000 8 ∷ bat 9 0 255 1000 2 0 ∷ []) (link 5 255 8 32768 ∷ link 2 255 6 32768 ∷ link 2 255 7 1 ∷ link 2 255 9 1000 ∷ link 2 255 1 255 ∷ link 1 1000 6 1 ∷ link 8 1000 8 255 ∷ link 1 1000 2 255 ∷ link 9 1000 7 32768 ∷ link 6 255 9 255 ∷ link 7 255 5 255 ∷ link 1 1000 7 255 ∷ link 8 1000 6 255 ∷ link 6 255 5 255 ∷ []) [] ∷ step ∷ look ∷ until 0x4024000000000000 7 ∷ [])
     ≡ seen
     (ran 1 ((5, 255, 4, 255, 0, 1) ∷ (5, 255, 7, 255, 0, 1) ∷ (5, 255, 7, 255, 0, 1) ∷ (5, 255, 8, 255, 0, 1) ∷ []) 0 1 ∷ holds (s0 ∷ p0 ∷ pPassive 0 [] ∷ s0 ∷ p0 ∷ []) ((5, 255, 4, 255, 0, 1) ∷ (5, 255, 7, 255, 0, 1) ∷ (5, 255, 7, 255, 0, 1) ∷ (5, 255, 8, 255, 0, 1) ∷ []) ∷ ran 1 [] 0 1 ∷ holds (sPassive inf ((1, some 0, none) ∷ []) ∷ p0 ∷ bBatching 0x3e112e0be826d695 (1 ∷ []) ∷ s0 ∷ p0 ∷ p0 ∷ b0 ∷ []) [] ∷ spent 7 ((8, 1000, 8, 255, 0x3e112e0be826d695, 1) ∷ (8, 1000, 6, 255, 0x3e112e0be826d695, 1) ∷ (8, 1000, 8, 255, 0x3e212e0be826d695, 1) ∷ (8, 1000, 6, 255, 0x3e212e0be826d695, 1) ∷ (8, 1000, 8, 255, 0x3e29c511dc3a41e0, 1) ∷ (8, 1000, 6, 255, 0x3e29c511dc3a41e0, 1) ∷ (8, 1000, 8, 255, 0x3e312e0be826d695, 1) ∷ (8, 1000, 6, 255, 0x3e312e0be826d695, 1) ∷ []) 0x3e312e0be826d695 1 ∷ [])
     (sPassive inf ((1, some 0, none) ∷ []) ∷ p0 ∷ b0 ∷ sPassive inf ((1, none, some 0x3e29c511dc3a41e0) ∷ []) ∷ p0 ∷ p0 ∷ b0 ∷ []) ((8, 1000, 8, 255, 0x3e312e0be826d695, 1) ∷ (8, 1000, 6, 255, 0x3e312e0be826d695, 1) ∷ [])
@@ -274,7 +274,7 @@ case-099 = refl
 
 -- 100126
 pub case-100 :
-    play (proc 5 0 1 1 1 ∷ bat 2 0 1 2 3 0x4004000000000000 ∷ most 8 0 1 4 3 2 ∷ proc 4 0 1 1 full ∷ least 1 0 4 2 1 1 ∷ proc 9 0 1 1 2 ∷ []) (link 4 1 1 17 ∷ link 9 1 1 2 ∷ link 4 1 1 1 ∷ link 9 1 4 1 ∷ link 9 1 1 4 ∷ link 4 1 1 2 ∷ link 1 1 99 4 ∷ []) []
+    play (proc 5 0 1 1 1 ∷ bat 2 0 1 2 3 0x4004000000000000 ∷ most 8 0 1 4 3 2 ∷ proc 4 0 1 1 32 ∷ least 1 0 4 2 1 1 ∷ proc 9 0 1 1 2 ∷ []) (link 4 1 1 17 ∷ link 9 1 1 2 ∷ link 4 1 1 1 ∷ link 9 1 4 1 ∷ link 9 1 1 4 ∷ link 4 1 1 2 ∷ link 1 1 99 4 ∷ []) []
     (0x3fd2492492492492 ∷ 0x3fd2492492492492 ∷ 0x4010000000000000 ∷ [])
     (job 5 1 3 ∷ until 0 1 ∷ look ∷ steps 2 ∷ look ∷ job 5 1 1 ∷ step ∷ look ∷ status 96 ∷ steps 2 ∷ [])
     ≡ seen

@@ -21,7 +21,7 @@ case-101 = refl
 
 -- 100128
 pub case-102 :
-    play (most 7 0 4 2 3 1 ∷ bat 8 0 1 2 2 0x3fd2492492492492 ∷ proc 1 0 1 2 2 ∷ bat 9 0 1 2 4611686018427387904 0x3fd5555555555555 ∷ bat 4 0 1 1 1 0x3fe6666666666666 ∷ bat 3 0 1 1 3 0x3fd3333333333333 ∷ bat 5 0 1 2 3 0x401c000000000000 ∷ []) (link 8 2 7 4 ∷ link 8 2 7 3 ∷ link 4 1 9 1 ∷ link 1 2 7 2 ∷ link 8 2 5 4 ∷ link 5 2 4 1 ∷ link 1 2 9 3 ∷ link 5 2 8 4 ∷ []) []
+    play (most 7 0 4 2 3 1 ∷ bat 8 0 1 2 2 0x3fd2492492492492 ∷ proc 1 0 1 2 full ∷ bat 9 0 1 2 4611686018427387904 0x3fd5555555555555 ∷ bat 4 0 1 1 1 0x3fe6666666666666 ∷ bat 3 0 1 1 3 0x3fd3333333333333 ∷ bat 5 0 1 2 3 0x401c000000000000 ∷ []) (link 8 2 7 4 ∷ link 8 2 7 3 ∷ link 4 1 9 1 ∷ link 1 2 7 2 ∷ link 8 2 5 4 ∷ link 5 2 4 1 ∷ link 1 2 9 3 ∷ link 5 2 8 4 ∷ []) []
     (0x3fb999999999999a ∷ [])
     (job 4 4 2 ∷ inject 5 3 9 2 0 2 ∷ until 0x3fb999999999999a 503 ∷ look ∷ job 4 2 1 ∷ reset-global-time ∷ steps 0 ∷ look ∷ steps 2 ∷ look ∷ job 4 2 3 ∷ job 8 4 2 ∷ step ∷ look ∷ step ∷ look ∷ until 0x4010000000000000 2 ∷ [])
     ≡ seen
@@ -65,7 +65,7 @@ case-105 = refl
 
 -- 100134
 pub case-106 :
-    play (bat 9 0 1 1 4 0x401c000000000000 ∷ coup 3 0 ∷ coup 7 3 ∷ coup 4 7 ∷ most 1 4 1 2 4 2 ∷ proc 2 0 1 1 2 ∷ []) (link 2 1 9 3 ∷ link 9 1 2 1 ∷ link 2 1 3 2 ∷ link 9 1 3 2 ∷ []) (out 7 4 4 1 ∷ into 7 1 4 2 ∷ into 7 1 4 2 ∷ into 3 1 7 1 ∷ out 3 7 2 2 ∷ inner 7 4 1 4 3 ∷ inner 3 7 1 7 1 ∷ inner 7 4 1 4 3 ∷ into 4 2 1 1 ∷ into 4 1 1 1 ∷ into 4 2 1 2 ∷ into 7 1 4 2 ∷ into 3 2 7 1 ∷ into 4 2 1 2 ∷ inner 7 4 2 4 2 ∷ inner 3 7 1 7 1 ∷ into 4 2 1 2 ∷ inner 7 4 3 4 1 ∷ into 4 3 1 9 ∷ [])
+    play (bat 9 0 1 1 4 0x401c000000000000 ∷ coup 3 0 ∷ coup 7 3 ∷ coup 4 7 ∷ most 1 4 1 2 4 2 ∷ proc 2 0 1 1 full ∷ []) (link 2 1 9 3 ∷ link 9 1 2 1 ∷ link 2 1 3 2 ∷ link 9 1 3 2 ∷ []) (out 7 4 4 1 ∷ into 7 1 4 2 ∷ into 7 1 4 2 ∷ into 3 1 7 1 ∷ out 3 7 2 2 ∷ inner 7 4 1 4 3 ∷ inner 3 7 1 7 1 ∷ inner 7 4 1 4 3 ∷ into 4 2 1 1 ∷ into 4 1 1 1 ∷ into 4 2 1 2 ∷ into 7 1 4 2 ∷ into 3 2 7 1 ∷ into 4 2 1 2 ∷ inner 7 4 2 4 2 ∷ inner 3 7 1 7 1 ∷ into 4 2 1 2 ∷ inner 7 4 3 4 1 ∷ into 4 3 1 9 ∷ [])
     (0x3fd2492492492492 ∷ 0x3fd3333333333333 ∷ 0x3fd5555555555555 ∷ 0x3fe6666666666666 ∷ [])
     (inject 0 0 3 2 0x4010000000000000 2 ∷ inject 0 0 2 1 0x401c000000000000 3 ∷ step ∷ look ∷ steps 2 ∷ look ∷ job 3 1 2 ∷ step ∷ look ∷ steps 3 ∷ look ∷ steps 3 ∷ look ∷ step ∷ look ∷ steps 4 ∷ [])
     ≡ seen
@@ -98,7 +98,7 @@ case-108 = refl
 
 -- 100138
 pub case-109 :
-    play (coup 6 0 ∷ proc 2 0 1 1 full ∷ coup 1 6 ∷ proc 3 0 1 1 full ∷ coup 9 1 ∷ bat 8 9 1 1 2 0 ∷ least 7 9 1 4 3 1 ∷ []) (link 6 2 2 1 ∷ link 2 1 3 1 ∷ link 3 1 6 1 ∷ link 6 2 99 1 ∷ link 6 2 6 1 ∷ link 8 1 2 1 ∷ []) (into 1 1 9 2 ∷ inner 6 1 1 1 2 ∷ out 1 9 2 2 ∷ out 1 9 2 1 ∷ out 9 7 1 2 ∷ into 9 1 7 65000 ∷ into 6 1 1 1 ∷ inner 1 9 2 9 1 ∷ into 6 1 1 1 ∷ into 9 2 7 3 ∷ inner 6 1 2 1 1 ∷ inner 6 1 2 1 1 ∷ inner 6 1 2 1 1 ∷ out 6 1 1 2 ∷ [])
+    play (coup 6 0 ∷ proc 2 0 1 1 32 ∷ coup 1 6 ∷ proc 3 0 1 1 32 ∷ coup 9 1 ∷ bat 8 9 1 1 2 0 ∷ least 7 9 1 4 3 1 ∷ []) (link 6 2 2 1 ∷ link 2 1 3 1 ∷ link 3 1 6 1 ∷ link 6 2 99 1 ∷ link 6 2 6 1 ∷ link 8 1 2 1 ∷ []) (into 1 1 9 2 ∷ inner 6 1 1 1 2 ∷ out 1 9 2 2 ∷ out 1 9 2 1 ∷ out 9 7 1 2 ∷ into 9 1 7 65000 ∷ into 6 1 1 1 ∷ inner 1 9 2 9 1 ∷ into 6 1 1 1 ∷ into 9 2 7 3 ∷ inner 6 1 2 1 1 ∷ inner 6 1 2 1 1 ∷ inner 6 1 2 1 1 ∷ out 6 1 1 2 ∷ [])
     (0x3e112e0be826d695 ∷ 0x3fd3333333333333 ∷ 0x3fd2492492492492 ∷ 0 ∷ [])
     (inject 0 0 3 1 0x4028b0a3d70a3d71 3 ∷ job 97 3 3 ∷ inject 0 0 6 1 0x401c000000000000 3 ∷ job 2 1 3 ∷ step ∷ look ∷ job 6 1 3 ∷ inject 0 0 2 1 0x3ff0000000000000 2 ∷ until 0x3ff0000000000000 6 ∷ [])
     ≡ seen
@@ -111,7 +111,7 @@ case-109 = refl
 pub case-110 :
     play (coup 4 0 ∷ coup 6 4 ∷ proc 3 6 1 1 2 ∷ proc 7 6 1 1 0 ∷ most 1 6 256 255 65534 255 ∷ bat 9 6 1 1 3 0x4004000000000000 ∷ []) (link 3 1 4 255 ∷ link 4 1 4 255 ∷ []) (out 4 6 255 1 ∷ into 4 255 6 256 ∷ inner 6 9 1 7 1 ∷ inner 6 3 1 7 1 ∷ inner 4 6 255 6 255 ∷ into 6 255 1 255 ∷ into 6 65534 1 65534 ∷ inner 6 9 1 3 1 ∷ into 4 1 6 1 ∷ inner 6 1 255 9 255 ∷ into 6 1 7 1 ∷ inner 4 6 255 6 255 ∷ into 6 1 1 256 ∷ into 6 1 7 1 ∷ out 6 7 1 255 ∷ out 4 6 255 1 ∷ [])
     []
-    (job 4 255 1 ∷ job 4 255 1 ∷ job 4 1 2 ∷ put-in (coup 8 0 ∷ coup 7 8 ∷ proc 6 0 1 255 full ∷ most 4 0 256 1 255 1 ∷ []) (link 6 255 8 255 ∷ link 4 1 4 9 ∷ link 8 1 6 1 ∷ link 8 1 4 1 ∷ link 8 1 6 1 ∷ link 6 255 99 65534 ∷ link 8 255 4 255 ∷ []) (inner 8 7 1 98 65534 ∷ inner 8 7 255 7 255 ∷ inner 8 7 256 7 65534 ∷ into 8 255 7 255 ∷ into 8 255 7 1 ∷ out 8 7 65534 1 ∷ out 8 7 256 255 ∷ out 8 7 255 1 ∷ []) ∷ steps 1 ∷ look ∷ job 4 256 2 ∷ step ∷ look ∷ job 4 255 2 ∷ job 4 255 2 ∷ steps 0 ∷ look ∷ step ∷ look ∷ until 0x4004000000000000 500 ∷ [])
+    (job 4 255 1 ∷ job 4 255 1 ∷ job 4 1 2 ∷ put-in (coup 8 0 ∷ coup 7 8 ∷ proc 6 0 1 255 32 ∷ most 4 0 256 1 255 1 ∷ []) (link 6 255 8 255 ∷ link 4 1 4 9 ∷ link 8 1 6 1 ∷ link 8 1 4 1 ∷ link 8 1 6 1 ∷ link 6 255 99 65534 ∷ link 8 255 4 255 ∷ []) (inner 8 7 1 98 65534 ∷ inner 8 7 255 7 255 ∷ inner 8 7 256 7 65534 ∷ into 8 255 7 255 ∷ into 8 255 7 1 ∷ out 8 7 65534 1 ∷ out 8 7 256 255 ∷ out 8 7 255 1 ∷ []) ∷ steps 1 ∷ look ∷ job 4 256 2 ∷ step ∷ look ∷ job 4 255 2 ∷ job 4 255 2 ∷ steps 0 ∷ look ∷ step ∷ look ∷ until 0x4004000000000000 500 ∷ [])
     ≡ seen
     (ran 1 [] 0 0 ∷ holds (c0 ∷ c0 ∷ p0 ∷ sPassive inf ((2, none, some 0) ∷ []) ∷ []) [] ∷ ran 1 [] 0 0 ∷ holds (c0 ∷ c0 ∷ p0 ∷ sPassive inf ((2, some 0, some 0) ∷ []) ∷ []) [] ∷ ran 0 [] 0 0 ∷ holds (c0 ∷ c0 ∷ p0 ∷ sPassive inf ((2, some 0, some 0) ∷ []) ∷ []) ((0, 0, 4, 255, 0, 2) ∷ (0, 0, 4, 255, 0, 2) ∷ []) ∷ ran 1 ((4, 1, 4, 9, 0, 2) ∷ []) 0 0 ∷ holds (c0 ∷ c0 ∷ p0 ∷ sPassive inf ((2, some 0, some 0) ∷ []) ∷ []) ((4, 1, 4, 9, 0, 2) ∷ []) ∷ stopped 5 0 [] 0 0 ∷ [])
     (c0 ∷ c0 ∷ p0 ∷ sPassive inf ((2, some 0, some 0) ∷ []) ∷ []) ((4, 1, 4, 9, 0, 2) ∷ [])
@@ -122,10 +122,10 @@ case-110 = refl
 pub case-111 :
     play (proc 1 0 1 1 3 ∷ proc 32768 0 1 1 1 ∷ bat 65535 0 1 2 2 0x4028b0a3d70a3d71 ∷ bat 256 0 1 2 1 0x3fe6666666666666 ∷ bat 2 0 1 2 4 0x4340000000000000 ∷ proc 257 0 1 1 1 ∷ bat 4096 0 1 1 1 0x3ff0000000000000 ∷ []) (link 2 2 1 1 ∷ link 32768 1 256 3 ∷ link 65535 2 2 3 ∷ link 256 2 1 17 ∷ link 2 2 4096 2 ∷ link 1 1 65535 2 ∷ link 4096 1 65535 2 ∷ link 256 2 32768 1 ∷ link 257 1 32768 1 ∷ []) []
     (0x3fb999999999999a ∷ 0x3fb999999999999a ∷ [])
-    (inject 0 0 1 1 0x3ff0000000000000 3 ∷ inject 5 3 1 1 0x4010000000000000 3 ∷ inject 0 0 32768 1 0x4010000000000000 2 ∷ reset-global-time ∷ put-in (coup 65535 0 ∷ coup 1 65535 ∷ coup 257 1 ∷ proc 32768 257 1 2 2 ∷ proc 2 257 1 1 0 ∷ []) (link 65535 1 99 3 ∷ link 65535 2 65535 1 ∷ []) (into 65535 1 1 1 ∷ into 257 2 32768 1 ∷ out 257 32768 2 2 ∷ into 65535 1 1 4 ∷ into 1 1 257 2 ∷ into 257 1 32768 1 ∷ inner 65535 1 4 1 1 ∷ into 65535 1 1 2 ∷ into 257 1 2 1 ∷ []) ∷ inject 0 0 65535 1 0x4010000000000000 1 ∷ job 65535 1 2 ∷ inject 0 0 65535 1 0x3fd2492492492492 3 ∷ until 0x3fb999999999999a 3 ∷ look ∷ step ∷ [])
+    (inject 0 0 1 1 0x3ff0000000000000 3 ∷ inject 5 3 1 1 0x4010000000000000 3 ∷ inject 0 0 32768 1 0x4010000000000000 2 ∷ reset-global-time ∷ put-in (coup 65535 0 ∷ coup 1 65535 ∷ coup 257 1 ∷ proc 32768 257 1 2 full ∷ proc 2 257 1 1 0 ∷ []) (link 65535 1 99 3 ∷ link 65535 2 65535 1 ∷ []) (into 65535 1 1 1 ∷ into 257 2 32768 1 ∷ out 257 32768 2 2 ∷ into 65535 1 1 4 ∷ into 1 1 257 2 ∷ into 257 1 32768 1 ∷ inner 65535 1 4 1 1 ∷ into 65535 1 1 2 ∷ into 257 1 2 1 ∷ []) ∷ inject 0 0 65535 1 0x4010000000000000 1 ∷ job 65535 1 2 ∷ inject 0 0 65535 1 0x3fd2492492492492 3 ∷ until 0x3fb999999999999a 3 ∷ look ∷ step ∷ [])
     ≡ seen
-    (reached 2 [] 0x3fb999999999999a 1 ∷ holds (c0 ∷ c0 ∷ c0 ∷ pPassive 0 (2 ∷ []) ∷ p0 ∷ []) [] ∷ ran 1 [] 0x3fb999999999999a 2 ∷ [])
-    (c0 ∷ c0 ∷ c0 ∷ pActive 0x3fb999999999999a (2 ∷ []) ∷ p0 ∷ []) []
+    (reached 2 [] 0x3fb999999999999a 1 ∷ holds (c0 ∷ c0 ∷ c0 ∷ pPassive 0 (2 ∷ 3 ∷ []) ∷ p0 ∷ []) [] ∷ ran 1 [] 0x3fb999999999999a 2 ∷ [])
+    (c0 ∷ c0 ∷ c0 ∷ pActive 0x3fb999999999999a (2 ∷ 3 ∷ []) ∷ p0 ∷ []) []
 unfolding play
 case-111 = refl
 
@@ -142,18 +142,18 @@ case-112 = refl
 
 -- 100143
 pub case-113 :
-    play (coup 8 0 ∷ proc 6 0 1 1 2 ∷ coup 5 8 ∷ coup 3 5 ∷ proc 9 3 1 2 1 ∷ []) (link 8 1 6 1 ∷ link 8 1 6 1 ∷ link 6 1 8 1 ∷ link 6 1 6 1 ∷ []) (out 5 3 1 1 ∷ into 3 1 9 1 ∷ inner 8 5 2 5 1 ∷ inner 8 5 2 5 4 ∷ into 8 1 5 1 ∷ inner 8 5 2 5 1 ∷ out 8 5 1 1 ∷ inner 8 5 1 5 1 ∷ out 3 9 2 1 ∷ into 3 2 9 1 ∷ into 8 1 5 4 ∷ into 5 1 3 1 ∷ [])
+    play (coup 8 0 ∷ proc 6 0 1 1 full ∷ coup 5 8 ∷ coup 3 5 ∷ proc 9 3 1 2 1 ∷ []) (link 8 1 6 1 ∷ link 8 1 6 1 ∷ link 6 1 8 1 ∷ link 6 1 6 1 ∷ []) (out 5 3 1 1 ∷ into 3 1 9 1 ∷ inner 8 5 2 5 1 ∷ inner 8 5 2 5 4 ∷ into 8 1 5 1 ∷ inner 8 5 2 5 1 ∷ out 8 5 1 1 ∷ inner 8 5 1 5 1 ∷ out 3 9 2 1 ∷ into 3 2 9 1 ∷ into 8 1 5 4 ∷ into 5 1 3 1 ∷ [])
     (0x4010000000000000 ∷ 0x4028b0a3d70a3d71 ∷ 0x3fb999999999999a ∷ 0 ∷ 0x401c000000000000 ∷ 0 ∷ 0x4028b0a3d70a3d71 ∷ [])
     (job 8 1 2 ∷ job 8 1 1 ∷ job 8 3 3 ∷ inject 0 0 6 1 0x4010000000000000 1 ∷ job 8 1 2 ∷ step ∷ look ∷ job 6 1 1 ∷ job 6 1 3 ∷ job 6 1 1 ∷ steps 4 ∷ look ∷ step ∷ look ∷ step ∷ look ∷ step ∷ look ∷ steps 3 ∷ [])
     ≡ seen
-    (ran 1 [] 0 2 ∷ holds (c0 ∷ pActive 0x4028b0a3d70a3d71 (1 ∷ []) ∷ c0 ∷ c0 ∷ pActive 0x4010000000000000 (2 ∷ []) ∷ []) [] ∷ ran 4 ((8, 1, 6, 1, 0x4010000000000000, 2) ∷ (8, 1, 6, 1, 0x4010000000000000, 2) ∷ (8, 1, 6, 1, 0x4010666666666666, 2) ∷ (8, 1, 6, 1, 0x4010666666666666, 2) ∷ []) 0x4010666666666666 3 ∷ holds (parks ((5, 1, 2) ∷ []) ∷ pActive 0x40207d70a3d70a3e (1 ∷ 1 ∷ []) ∷ c0 ∷ c0 ∷ pPassive 0 [] ∷ []) ((8, 1, 6, 1, 0x4010666666666666, 2) ∷ (8, 1, 6, 1, 0x4010666666666666, 2) ∷ []) ∷ ran 1 ((8, 1, 6, 1, 0x4010666666666666, 2) ∷ (8, 1, 6, 1, 0x4010666666666666, 2) ∷ []) 0x4010666666666666 4 ∷ holds (parks ((5, 1, 2) ∷ []) ∷ pActive 0x40207d70a3d70a3e (1 ∷ 1 ∷ []) ∷ c0 ∷ c0 ∷ pPassive 0 [] ∷ []) ((8, 1, 6, 1, 0x4010666666666666, 2) ∷ (8, 1, 6, 1, 0x4010666666666666, 2) ∷ []) ∷ ran 1 [] 0x4010666666666666 5 ∷ holds (c0 ∷ pActive 0x40207d70a3d70a3e (1 ∷ 1 ∷ []) ∷ c0 ∷ c0 ∷ pActive 0x401c000000000000 (2 ∷ []) ∷ []) [] ∷ ran 1 ((8, 1, 6, 1, 0x4026333333333333, 2) ∷ (8, 1, 6, 1, 0x4026333333333333, 2) ∷ []) 0x4026333333333333 5 ∷ holds (parks ((5, 1, 2) ∷ []) ∷ pActive 0x3ff3eb851eb851f0 (1 ∷ 1 ∷ []) ∷ c0 ∷ c0 ∷ pPassive 0 [] ∷ []) ((8, 1, 6, 1, 0x4026333333333333, 2) ∷ (8, 1, 6, 1, 0x4026333333333333, 2) ∷ []) ∷ ran 3 ((8, 1, 6, 1, 0x4026333333333333, 2) ∷ (8, 1, 6, 1, 0x4026333333333333, 2) ∷ (6, 1, 8, 1, 0x4028b0a3d70a3d71, 1) ∷ (6, 1, 6, 1, 0x4028b0a3d70a3d71, 1) ∷ []) 0x4028b0a3d70a3d71 7 ∷ [])
-    (c0 ∷ pPassive 0 (1 ∷ []) ∷ c0 ∷ c0 ∷ pActive 0x4026333333333333 (2 ∷ []) ∷ []) ((6, 1, 8, 1, 0x4028b0a3d70a3d71, 1) ∷ (6, 1, 6, 1, 0x4028b0a3d70a3d71, 1) ∷ [])
+    (ran 1 [] 0 2 ∷ holds (c0 ∷ pActive 0x4028b0a3d70a3d71 (1 ∷ []) ∷ c0 ∷ c0 ∷ pActive 0x4010000000000000 (2 ∷ []) ∷ []) [] ∷ ran 4 ((8, 1, 6, 1, 0x4010000000000000, 2) ∷ (8, 1, 6, 1, 0x4010000000000000, 2) ∷ (8, 1, 6, 1, 0x4010666666666666, 2) ∷ (8, 1, 6, 1, 0x4010666666666666, 2) ∷ []) 0x4010666666666666 3 ∷ holds (parks ((5, 1, 2) ∷ []) ∷ pActive 0x40207d70a3d70a3e (1 ∷ 1 ∷ 3 ∷ 1 ∷ 2 ∷ 2 ∷ []) ∷ c0 ∷ c0 ∷ pPassive 0 [] ∷ []) ((8, 1, 6, 1, 0x4010666666666666, 2) ∷ (8, 1, 6, 1, 0x4010666666666666, 2) ∷ []) ∷ ran 1 ((8, 1, 6, 1, 0x4010666666666666, 2) ∷ (8, 1, 6, 1, 0x4010666666666666, 2) ∷ []) 0x4010666666666666 4 ∷ holds (parks ((5, 1, 2) ∷ []) ∷ pActive 0x40207d70a3d70a3e (1 ∷ 1 ∷ 3 ∷ 1 ∷ 2 ∷ 2 ∷ 2 ∷ 2 ∷ []) ∷ c0 ∷ c0 ∷ pPassive 0 [] ∷ []) ((8, 1, 6, 1, 0x4010666666666666, 2) ∷ (8, 1, 6, 1, 0x4010666666666666, 2) ∷ []) ∷ ran 1 [] 0x4010666666666666 5 ∷ holds (c0 ∷ pActive 0x40207d70a3d70a3e (1 ∷ 1 ∷ 3 ∷ 1 ∷ 2 ∷ 2 ∷ 2 ∷ 2 ∷ 2 ∷ 2 ∷ []) ∷ c0 ∷ c0 ∷ pActive 0x401c000000000000 (2 ∷ []) ∷ []) [] ∷ ran 1 ((8, 1, 6, 1, 0x4026333333333333, 2) ∷ (8, 1, 6, 1, 0x4026333333333333, 2) ∷ []) 0x4026333333333333 5 ∷ holds (parks ((5, 1, 2) ∷ []) ∷ pActive 0x3ff3eb851eb851f0 (1 ∷ 1 ∷ 3 ∷ 1 ∷ 2 ∷ 2 ∷ 2 ∷ 2 ∷ 2 ∷ 2 ∷ []) ∷ c0 ∷ c0 ∷ pPassive 0 [] ∷ []) ((8, 1, 6, 1, 0x4026333333333333, 2) ∷ (8, 1, 6, 1, 0x4026333333333333, 2) ∷ []) ∷ ran 3 ((8, 1, 6, 1, 0x4026333333333333, 2) ∷ (8, 1, 6, 1, 0x4026333333333333, 2) ∷ (6, 1, 8, 1, 0x4028b0a3d70a3d71, 1) ∷ (6, 1, 6, 1, 0x4028b0a3d70a3d71, 1) ∷ []) 0x4028b0a3d70a3d71 7 ∷ [])
+    (c0 ∷ pPassive 0 (1 ∷ 3 ∷ 1 ∷ 2 ∷ 2 ∷ 2 ∷ 2 ∷ 2 ∷ 2 ∷ 2 ∷ 2 ∷ 2 ∷ 2 ∷ []) ∷ c0 ∷ c0 ∷ pActive 0x4026333333333333 (2 ∷ []) ∷ []) ((6, 1, 8, 1, 0x4028b0a3d70a3d71, 1) ∷ (6, 1, 6, 1, 0x4028b0a3d70a3d71, 1) ∷ [])
 unfolding play
 case-113 = refl
 
 -- 100144
 pub case-114 :
-    play (coup 1 0 ∷ coup 7 1 ∷ proc 4 7 1 2 8 ∷ bat 8 7 1 2 4 0x4004000000000000 ∷ proc 5 7 1 2 8 ∷ proc 2 7 1 1 1 ∷ proc 6 7 1 1 2 ∷ []) (link 1 2 99 3 ∷ link 7 2 99 3 ∷ link 1 2 99 1 ∷ []) (inner 7 2 1 4 1 ∷ inner 1 7 4 98 3 ∷ inner 1 7 3 7 1 ∷ out 1 7 1 2 ∷ into 1 1 7 2 ∷ into 7 2 2 1 ∷ inner 7 2 1 5 1 ∷ inner 7 2 1 6 1 ∷ inner 1 7 2 7 2 ∷ inner 7 5 2 4 1 ∷ into 7 1 4 1 ∷ out 1 7 2 2 ∷ inner 1 7 1 7 1 ∷ out 1 7 4 2 ∷ inner 7 8 2 2 1 ∷ [])
+    play (coup 1 0 ∷ coup 7 1 ∷ proc 4 7 1 2 8 ∷ bat 8 7 1 2 4 0x4004000000000000 ∷ proc 5 7 1 2 8 ∷ proc 2 7 1 1 1 ∷ proc 6 7 1 1 full ∷ []) (link 1 2 99 3 ∷ link 7 2 99 3 ∷ link 1 2 99 1 ∷ []) (inner 7 2 1 4 1 ∷ inner 1 7 4 98 3 ∷ inner 1 7 3 7 1 ∷ out 1 7 1 2 ∷ into 1 1 7 2 ∷ into 7 2 2 1 ∷ inner 7 2 1 5 1 ∷ inner 7 2 1 6 1 ∷ inner 1 7 2 7 2 ∷ inner 7 5 2 4 1 ∷ into 7 1 4 1 ∷ out 1 7 2 2 ∷ inner 1 7 1 7 1 ∷ out 1 7 4 2 ∷ inner 7 8 2 2 1 ∷ [])
     (0x3fb999999999999a ∷ 0 ∷ 0x4028b0a3d70a3d71 ∷ 0x401c000000000000 ∷ 0x3fd2492492492492 ∷ [])
     (job 1 3 2 ∷ steps 1 ∷ look ∷ job 1 1 3 ∷ step ∷ look ∷ until 0x4010000000000000 5 ∷ look ∷ step ∷ look ∷ status 5 ∷ step ∷ [])
     ≡ seen
@@ -197,7 +197,7 @@ case-117 = refl
 
 -- 100148
 pub case-118 :
-    play (coup 4 0 ∷ coup 8 4 ∷ bat 2 8 256 256 2 0x3ff0000000000000 ∷ bat 6 8 256 255 1 0x401c000000000000 ∷ proc 1 0 256 256 2 ∷ least 7 8 1 255 0 256 ∷ proc 9 8 256 255 2 ∷ []) (link 4 0 99 256 ∷ link 1 256 1 256 ∷ link 1 256 4 255 ∷ link 7 256 4 255 ∷ []) (into 4 256 8 1 ∷ into 8 1 7 0 ∷ inner 8 2 256 6 256 ∷ inner 8 2 256 6 256 ∷ into 8 256 7 1 ∷ into 4 255 8 255 ∷ into 8 255 7 255 ∷ into 8 255 9 256 ∷ into 4 256 8 255 ∷ inner 4 8 255 8 255 ∷ into 8 255 2 0 ∷ [])
+    play (coup 4 0 ∷ coup 8 4 ∷ bat 2 8 256 256 2 0x3ff0000000000000 ∷ bat 6 8 256 255 1 0x401c000000000000 ∷ proc 1 0 256 256 full ∷ least 7 8 1 255 0 256 ∷ proc 9 8 256 255 2 ∷ []) (link 4 0 99 256 ∷ link 1 256 1 256 ∷ link 1 256 4 255 ∷ link 7 256 4 255 ∷ []) (into 4 256 8 1 ∷ into 8 1 7 0 ∷ inner 8 2 256 6 256 ∷ inner 8 2 256 6 256 ∷ into 8 256 7 1 ∷ into 4 255 8 255 ∷ into 8 255 7 255 ∷ into 8 255 9 256 ∷ into 4 256 8 255 ∷ inner 4 8 255 8 255 ∷ into 8 255 2 0 ∷ [])
     (0 ∷ 0x3fd5555555555555 ∷ 0 ∷ 0x4004000000000000 ∷ 0x3fd3333333333333 ∷ [])
     (inject 65535 3 4 256 0 7 ∷ job 4 256 7 ∷ job 1 256 0 ∷ job 4 256 7 ∷ inject 5 3 1 256 0x3fb999999999999a 4294967295 ∷ inject 0 0 4 256 0x401c000000000000 0 ∷ steps 2 ∷ look ∷ step ∷ look ∷ steps 3 ∷ look ∷ put-in (proc 6 0 256 256 3 ∷ least 7 0 256 1 255 256 ∷ proc 9 0 256 256 3 ∷ proc 5 0 256 255 8 ∷ coup 3 0 ∷ bat 2 3 256 256 2 0x3fb999999999999a ∷ []) (link 6 256 5 256 ∷ link 6 256 99 1 ∷ link 5 255 3 256 ∷ link 3 256 7 255 ∷ link 3 256 5 256 ∷ link 9 256 7 256 ∷ link 3 256 7 1 ∷ link 7 256 3 256 ∷ link 7 256 9 256 ∷ link 3 256 7 256 ∷ []) (into 3 256 2 0 ∷ into 3 256 2 0 ∷ out 3 2 256 256 ∷ into 3 256 2 255 ∷ []) ∷ job 6 256 2147483648 ∷ until 0x3ff0000000000000 3 ∷ [])
     ≡ seen
@@ -219,7 +219,7 @@ case-119 = refl
 
 -- 100152
 pub case-120 :
-    play (most 7 0 1 2 3 2 ∷ proc 6 0 1 1 3 ∷ least 8 0 3 4 1 2 ∷ bat 4 0 1 2 4611686018427387904 0 ∷ proc 9 0 1 2 full ∷ bat 1 0 1 1 4 0x3fd3333333333333 ∷ []) (link 9 2 4 4 ∷ link 4 2 8 1 ∷ link 1 1 8 4 ∷ link 1 1 8 3 ∷ link 6 1 1 1 ∷ link 9 2 7 1 ∷ link 8 2 4 1 ∷ link 1 1 8 1 ∷ link 1 1 7 2 ∷ link 4 2 7 3 ∷ link 1 1 1 1 ∷ link 7 2 6 1 ∷ link 4 2 4 1 ∷ []) []
+    play (most 7 0 1 2 3 2 ∷ proc 6 0 1 1 3 ∷ least 8 0 3 4 1 2 ∷ bat 4 0 1 2 4611686018427387904 0 ∷ proc 9 0 1 2 32 ∷ bat 1 0 1 1 4 0x3fd3333333333333 ∷ []) (link 9 2 4 4 ∷ link 4 2 8 1 ∷ link 1 1 8 4 ∷ link 1 1 8 3 ∷ link 6 1 1 1 ∷ link 9 2 7 1 ∷ link 8 2 4 1 ∷ link 1 1 8 1 ∷ link 1 1 7 2 ∷ link 4 2 7 3 ∷ link 1 1 1 1 ∷ link 7 2 6 1 ∷ link 4 2 4 1 ∷ []) []
     (0x3fe6666666666666 ∷ 0x3fe6666666666666 ∷ 0x4010000000000000 ∷ [])
     (inject 65535 3 9 1 0 1 ∷ inject 0 0 9 1 0x3fb999999999999a 1 ∷ inject 0 0 8 1 0x3e112e0be826d695 1 ∷ inject 65535 3 7 3 0 3 ∷ job 7 1 3 ∷ step ∷ look ∷ until 0 501 ∷ look ∷ step ∷ look ∷ status 9 ∷ step ∷ look ∷ step ∷ look ∷ until 0x3fe6666666666666 2 ∷ [])
     ≡ seen
@@ -230,7 +230,7 @@ case-120 = refl
 
 -- 100153
 pub case-121 :
-    play (coup 2 0 ∷ coup 32768 2 ∷ bat 65534 32768 1 2 4 0x3fd2492492492492 ∷ proc 256 0 1 2 2 ∷ proc 255 0 1 1 2 ∷ most 4096 32768 4 3 2 2 ∷ []) (link 256 2 2 1 ∷ link 2 1 2 1 ∷ link 2 1 2 2 ∷ []) (into 32768 3 4096 2 ∷ out 2 32768 4 1 ∷ into 2 2 32768 2 ∷ into 2 2 32768 1 ∷ into 2 1 32768 2 ∷ inner 2 32768 4 32768 1 ∷ inner 2 32768 2 32768 3 ∷ inner 2 32768 2 32768 1 ∷ into 32768 1 65534 4 ∷ into 32768 2 4096 3 ∷ out 2 32768 1 1 ∷ inner 2 32768 2 32768 2 ∷ into 32768 1 4096 4 ∷ out 2 32768 2 1 ∷ into 32768 2 65534 1 ∷ [])
+    play (coup 2 0 ∷ coup 32768 2 ∷ bat 65534 32768 1 2 4 0x3fd2492492492492 ∷ proc 256 0 1 2 full ∷ proc 255 0 1 1 2 ∷ most 4096 32768 4 3 2 2 ∷ []) (link 256 2 2 1 ∷ link 2 1 2 1 ∷ link 2 1 2 2 ∷ []) (into 32768 3 4096 2 ∷ out 2 32768 4 1 ∷ into 2 2 32768 2 ∷ into 2 2 32768 1 ∷ into 2 1 32768 2 ∷ inner 2 32768 4 32768 1 ∷ inner 2 32768 2 32768 3 ∷ inner 2 32768 2 32768 1 ∷ into 32768 1 65534 4 ∷ into 32768 2 4096 3 ∷ out 2 32768 1 1 ∷ inner 2 32768 2 32768 2 ∷ into 32768 1 4096 4 ∷ out 2 32768 2 1 ∷ into 32768 2 65534 1 ∷ [])
     (0 ∷ 0x3ff0000000000000 ∷ 0x3fb999999999999a ∷ 0x3e112e0be826d695 ∷ [])
     (job 97 3 2 ∷ job 256 1 2 ∷ step ∷ look ∷ step ∷ look ∷ step ∷ look ∷ inject 65535 3 255 1 0 1 ∷ until 0x3fd2492492492492 2 ∷ look ∷ status 256 ∷ inject 65535 3 256 1 0 2 ∷ job 2 2 1 ∷ until 0x3ff4924924924924 1 ∷ [])
     ≡ seen
@@ -241,7 +241,7 @@ case-121 = refl
 
 -- 100154
 pub case-122 :
-    play (coup 1 0 ∷ coup 5 1 ∷ proc 4 5 1 1 full ∷ bat 7 5 1 1 1 0x3ff0000000000000 ∷ proc 8 5 1 1 8 ∷ bat 3 1 1 1 4 0x4028b0a3d70a3d71 ∷ []) (link 1 3 1 2 ∷ link 1 2 1 2 ∷ link 1 2 1 2 ∷ []) (into 1 2 3 2 ∷ into 5 1 4 1 ∷ inner 5 4 1 7 4 ∷ into 5 2 4 1 ∷ into 1 1 3 2 ∷ inner 5 7 1 8 1 ∷ out 5 4 1 1 ∷ inner 5 7 1 8 1 ∷ into 5 1 8 1 ∷ out 5 7 1 2 ∷ inner 5 7 1 4 65000 ∷ inner 5 4 1 7 1 ∷ [])
+    play (coup 1 0 ∷ coup 5 1 ∷ proc 4 5 1 1 32 ∷ bat 7 5 1 1 1 0x3ff0000000000000 ∷ proc 8 5 1 1 8 ∷ bat 3 1 1 1 4 0x4028b0a3d70a3d71 ∷ []) (link 1 3 1 2 ∷ link 1 2 1 2 ∷ link 1 2 1 2 ∷ []) (into 1 2 3 2 ∷ into 5 1 4 1 ∷ inner 5 4 1 7 4 ∷ into 5 2 4 1 ∷ into 1 1 3 2 ∷ inner 5 7 1 8 1 ∷ out 5 4 1 1 ∷ inner 5 7 1 8 1 ∷ into 5 1 8 1 ∷ out 5 7 1 2 ∷ inner 5 7 1 4 65000 ∷ inner 5 4 1 7 1 ∷ [])
     []
     (inject 65535 3 1 2 0 0 ∷ inject 0 0 1 1 0x401c000000000000 7 ∷ job 1 1 2147483648 ∷ steps 2 ∷ look ∷ inject 0 0 1 2 0x4010000000000000 7 ∷ job 1 2 2147483648 ∷ put-in (coup 1 0 ∷ []) (link 1 1 1 4 ∷ link 1 4 99 2 ∷ []) [] ∷ step ∷ look ∷ inject 5 3 1 1 0 7 ∷ steps 1 ∷ look ∷ inject 0 0 1 4 0x4010000000000000 0 ∷ job 1 2 7 ∷ step ∷ [])
     ≡ seen
@@ -252,7 +252,7 @@ case-122 = refl
 
 -- 100155
 pub case-123 :
-    play (proc 2 0 1 1 3 ∷ bat 6 0 1 1 1 0x4004000000000000 ∷ proc 1 0 1 2 1 ∷ proc 4 0 1 2 2 ∷ proc 5 0 1 2 2 ∷ bat 8 0 1 1 2 0x4010000000000000 ∷ proc 9 0 1 2 3 ∷ []) (link 4 2 6 3 ∷ link 6 1 9 1 ∷ link 1 2 5 9 ∷ link 9 2 1 1 ∷ link 5 2 9 1 ∷ link 4 2 6 1 ∷ link 8 1 6 2 ∷ []) []
+    play (proc 2 0 1 1 3 ∷ bat 6 0 1 1 1 0x4004000000000000 ∷ proc 1 0 1 2 1 ∷ proc 4 0 1 2 2 ∷ proc 5 0 1 2 full ∷ bat 8 0 1 1 2 0x4010000000000000 ∷ proc 9 0 1 2 3 ∷ []) (link 4 2 6 3 ∷ link 6 1 9 1 ∷ link 1 2 5 9 ∷ link 9 2 1 1 ∷ link 5 2 9 1 ∷ link 4 2 6 1 ∷ link 8 1 6 2 ∷ []) []
     (0x401c000000000000 ∷ 0x3fb999999999999a ∷ 0x3fb999999999999a ∷ [])
     (inject 0 0 2 1 0x401c000000000000 3 ∷ step ∷ look ∷ step ∷ look ∷ steps 1 ∷ look ∷ job 4 1 1 ∷ reset-messages ∷ inject 0 0 97 1 0x3fb999999999999a 1 ∷ reset-global-time ∷ step ∷ look ∷ job 4 1 3 ∷ job 2 1 3 ∷ job 9 1 1 ∷ job 1 1 1 ∷ job 9 1 1 ∷ steps 2 ∷ [])
     ≡ seen

@@ -32,7 +32,7 @@ case-127 = refl
 
 -- 100160
 pub case-128 :
-    play (coup 4 0 ∷ proc 6 4 1 1 full ∷ proc 1 4 1 1 1 ∷ proc 7 4 1 2 1 ∷ []) (link 4 1 4 4 ∷ link 4 1 99 2 ∷ []) (into 4 1 7 1 ∷ inner 4 1 1 7 1 ∷ into 4 1 6 1 ∷ out 4 6 1 1 ∷ inner 4 7 2 6 1 ∷ inner 4 1 1 6 1 ∷ inner 4 7 2 6 1 ∷ into 4 2 7 1 ∷ [])
+    play (coup 4 0 ∷ proc 6 4 1 1 32 ∷ proc 1 4 1 1 1 ∷ proc 7 4 1 2 1 ∷ []) (link 4 1 4 4 ∷ link 4 1 99 2 ∷ []) (into 4 1 7 1 ∷ inner 4 1 1 7 1 ∷ into 4 1 6 1 ∷ out 4 6 1 1 ∷ inner 4 7 2 6 1 ∷ inner 4 1 1 6 1 ∷ inner 4 7 2 6 1 ∷ into 4 2 7 1 ∷ [])
     (0x401c000000000000 ∷ [])
     (steps 0 ∷ [])
     ≡ seen
@@ -43,7 +43,7 @@ case-128 = refl
 
 -- 100161
 pub case-129 :
-    play (coup 65535 0 ∷ coup 2 65535 ∷ coup 4096 2 ∷ bat 255 0 1 2 2 0x3fd5555555555555 ∷ coup 257 4096 ∷ proc 32768 257 1 1 full ∷ []) (link 65535 4 255 4 ∷ link 32768 1 65535 1 ∷ link 255 2 65535 1 ∷ link 255 2 99 1 ∷ []) (into 2 2 4096 2 ∷ out 2 4096 1 1 ∷ into 257 2 32768 1 ∷ inner 65535 2 1 98 4 ∷ inner 4096 257 2 257 1 ∷ out 2 4096 3 1 ∷ inner 65535 2 2 2 4 ∷ into 4096 2 257 1 ∷ inner 257 32768 1 32768 1 ∷ into 65535 1 2 2 ∷ into 257 1 32768 1 ∷ into 2 1 4096 2 ∷ into 257 1 32768 1 ∷ out 2 4096 3 2 ∷ [])
+    play (coup 65535 0 ∷ coup 2 65535 ∷ coup 4096 2 ∷ bat 255 0 1 2 2 0x3fd5555555555555 ∷ coup 257 4096 ∷ proc 32768 257 1 1 32 ∷ []) (link 65535 4 255 4 ∷ link 32768 1 65535 1 ∷ link 255 2 65535 1 ∷ link 255 2 99 1 ∷ []) (into 2 2 4096 2 ∷ out 2 4096 1 1 ∷ into 257 2 32768 1 ∷ inner 65535 2 1 98 4 ∷ inner 4096 257 2 257 1 ∷ out 2 4096 3 1 ∷ inner 65535 2 2 2 4 ∷ into 4096 2 257 1 ∷ inner 257 32768 1 32768 1 ∷ into 65535 1 2 2 ∷ into 257 1 32768 1 ∷ into 2 1 4096 2 ∷ into 257 1 32768 1 ∷ out 2 4096 3 2 ∷ [])
     (0x3ff0000000000000 ∷ 0x401c000000000000 ∷ 0x4004000000000000 ∷ 0 ∷ 0x4028b0a3d70a3d71 ∷ [])
     (job 255 4 2147483648 ∷ job 255 1 4294967295 ∷ inject 65535 3 65535 1 0 7 ∷ step ∷ look ∷ job 65535 1 7 ∷ job 97 2 0 ∷ job 65535 1 2147483648 ∷ job 65535 3 0 ∷ until 0x4004000000000000 504 ∷ look ∷ step ∷ look ∷ until 0x4032000000000000 4 ∷ [])
     ≡ seen
@@ -98,7 +98,7 @@ case-133 = refl
 
 -- 100170
 pub case-134 :
-    play (bat 4 0 1 1 2 0x4028b0a3d70a3d71 ∷ least 8 0 32768 1 65535 32768 ∷ proc 9 0 1 1 2 ∷ bat 5 0 1 1 3 0x4004000000000000 ∷ proc 2 0 1 1 full ∷ []) (link 9 1 8 65535 ∷ link 2 1 9 1 ∷ link 4 1 4 1 ∷ link 2 1 4 65535 ∷ link 5 1 8 32768 ∷ link 9 1 8 65535 ∷ link 9 1 5 255 ∷ link 2 1 8 1 ∷ link 5 1 2 1 ∷ []) []
+    play (bat 4 0 1 1 2 0x4028b0a3d70a3d71 ∷ least 8 0 32768 1 65535 32768 ∷ proc 9 0 1 1 full ∷ bat 5 0 1 1 3 0x4004000000000000 ∷ proc 2 0 1 1 32 ∷ []) (link 9 1 8 65535 ∷ link 2 1 9 1 ∷ link 4 1 4 1 ∷ link 2 1 4 65535 ∷ link 5 1 8 32768 ∷ link 9 1 8 65535 ∷ link 9 1 5 255 ∷ link 2 1 8 1 ∷ link 5 1 2 1 ∷ []) []
     (0x4004000000000000 ∷ 0x3fd3333333333333 ∷ 0x4028b0a3d70a3d71 ∷ 0x4010000000000000 ∷ [])
     (job 4 255 1 ∷ job 2 1 2 ∷ job 2 1 2 ∷ steps 4 ∷ look ∷ step ∷ look ∷ until 0x4004000000000000 501 ∷ look ∷ steps 3 ∷ [])
     ≡ seen
@@ -109,7 +109,7 @@ case-134 = refl
 
 -- 100173
 pub case-135 :
-    play (coup 4096 0 ∷ bat 257 4096 1 1 2 0x3fd3333333333333 ∷ proc 32768 4096 1 1 2 ∷ proc 255 4096 1 1 2 ∷ proc 256 0 1 2 8 ∷ []) (link 4096 1 4096 1 ∷ link 4096 2 256 1 ∷ []) (inner 4096 255 1 32768 1 ∷ inner 4096 255 1 32768 1 ∷ out 4096 32768 1 1 ∷ out 4096 255 1 2 ∷ into 4096 1 257 3 ∷ out 4096 255 1 2 ∷ [])
+    play (coup 4096 0 ∷ bat 257 4096 1 1 2 0x3fd3333333333333 ∷ proc 32768 4096 1 1 full ∷ proc 255 4096 1 1 full ∷ proc 256 0 1 2 8 ∷ []) (link 4096 1 4096 1 ∷ link 4096 2 256 1 ∷ []) (inner 4096 255 1 32768 1 ∷ inner 4096 255 1 32768 1 ∷ out 4096 32768 1 1 ∷ out 4096 255 1 2 ∷ into 4096 1 257 3 ∷ out 4096 255 1 2 ∷ [])
     (0x401c000000000000 ∷ 0 ∷ 0x3e112e0be826d695 ∷ 0x4004000000000000 ∷ [])
     (inject 0 0 256 1 0x3ff0000000000000 2 ∷ job 256 1 2 ∷ inject 0 0 256 1 0x4010000000000000 2 ∷ inject 0 0 4096 1 0x3fb999999999999a 2 ∷ job 256 1 3 ∷ until 0x3fb999999999999a 2 ∷ look ∷ job 256 1 1 ∷ step ∷ look ∷ steps 3 ∷ look ∷ step ∷ [])
     ≡ seen
@@ -142,7 +142,7 @@ case-137 = refl
 
 -- 100177
 pub case-138 :
-    play (coup 9 0 ∷ coup 4 9 ∷ proc 8 4 1 1 full ∷ proc 7 4 1 2 1 ∷ []) (link 9 4 99 3 ∷ link 9 3 99 1 ∷ link 9 1 99 4 ∷ link 9 2 9 2 ∷ []) (inner 9 4 3 4 1 ∷ into 9 2 4 1 ∷ into 4 1 7 1 ∷ [])
+    play (coup 9 0 ∷ coup 4 9 ∷ proc 8 4 1 1 32 ∷ proc 7 4 1 2 1 ∷ []) (link 9 4 99 3 ∷ link 9 3 99 1 ∷ link 9 1 99 4 ∷ link 9 2 9 2 ∷ []) (inner 9 4 3 4 1 ∷ into 9 2 4 1 ∷ into 4 1 7 1 ∷ [])
     (0x401c000000000000 ∷ 0x4010000000000000 ∷ 0x4010000000000000 ∷ 0x401c000000000000 ∷ [])
     (job 9 2 3 ∷ reset-messages ∷ job 9 2 1 ∷ step ∷ look ∷ steps 2 ∷ look ∷ job 9 3 1 ∷ job 9 2 3 ∷ reset-messages ∷ inject 65535 3 9 2 0 2 ∷ job 9 2 1 ∷ steps 1 ∷ look ∷ reset ∷ until 0x3fb999999999999a 501 ∷ look ∷ step ∷ look ∷ job 9 2 3 ∷ inject 0 0 9 3 0x3e112e0be826d695 3 ∷ steps 0 ∷ look ∷ until 0x4020000000000000 502 ∷ look ∷ until 0x4032000000000000 1 ∷ look ∷ job 9 2 3 ∷ job 9 2 2 ∷ steps 2 ∷ look ∷ step ∷ [])
     ≡ seen
@@ -164,7 +164,7 @@ case-139 = refl
 
 -- 100179
 pub case-140 :
-    play (coup 257 0 ∷ coup 2 257 ∷ proc 1 2 1 2 full ∷ proc 255 2 1 1 2 ∷ proc 65535 2 1 1 0 ∷ []) (link 1 2 257 2 ∷ link 257 2 257 3 ∷ link 257 2 257 2 ∷ link 257 2 99 4 ∷ []) (out 257 2 1 2 ∷ inner 257 2 2 2 1 ∷ into 2 1 65535 1 ∷ into 257 2 2 1 ∷ inner 2 255 1 1 1 ∷ inner 2 255 1 65535 1 ∷ out 257 2 4 2 ∷ inner 2 1 2 1 1 ∷ out 257 2 2 2 ∷ into 2 1 65535 1 ∷ [])
+    play (coup 257 0 ∷ coup 2 257 ∷ proc 1 2 1 2 32 ∷ proc 255 2 1 1 full ∷ proc 65535 2 1 1 0 ∷ []) (link 1 2 257 2 ∷ link 257 2 257 3 ∷ link 257 2 257 2 ∷ link 257 2 99 4 ∷ []) (out 257 2 1 2 ∷ inner 257 2 2 2 1 ∷ into 2 1 65535 1 ∷ into 257 2 2 1 ∷ inner 2 255 1 1 1 ∷ inner 2 255 1 65535 1 ∷ out 257 2 4 2 ∷ inner 2 1 2 1 1 ∷ out 257 2 2 2 ∷ into 2 1 65535 1 ∷ [])
     []
     (job 257 2 1 ∷ step ∷ [])
     ≡ seen
@@ -186,7 +186,7 @@ case-141 = refl
 
 -- 100183
 pub case-142 :
-    play (coup 255 0 ∷ coup 65535 255 ∷ bat 2 65535 1 2 2 0x3fb999999999999a ∷ most 1 65535 4 1 2 2 ∷ proc 257 255 1 2 full ∷ bat 32768 65535 1 2 2 0x3fb999999999999a ∷ proc 65534 65535 1 1 1 ∷ []) (link 32768 2 255 1 ∷ link 255 2 99 1 ∷ link 255 2 255 1 ∷ link 255 2 99 1 ∷ []) (inner 255 257 2 65535 2 ∷ into 255 1 65535 1 ∷ out 65535 65534 1 2 ∷ inner 255 257 2 65535 1 ∷ inner 65535 1 2 98 1 ∷ into 65535 2 1 17 ∷ into 255 2 65535 2 ∷ out 255 257 2 2 ∷ inner 255 65535 1 65535 2 ∷ into 65535 1 2 3 ∷ [])
+    play (coup 255 0 ∷ coup 65535 255 ∷ bat 2 65535 1 2 2 0x3fb999999999999a ∷ most 1 65535 4 1 2 2 ∷ proc 257 255 1 2 32 ∷ bat 32768 65535 1 2 2 0x3fb999999999999a ∷ proc 65534 65535 1 1 1 ∷ []) (link 32768 2 255 1 ∷ link 255 2 99 1 ∷ link 255 2 255 1 ∷ link 255 2 99 1 ∷ []) (inner 255 257 2 65535 2 ∷ into 255 1 65535 1 ∷ out 65535 65534 1 2 ∷ inner 255 257 2 65535 1 ∷ inner 65535 1 2 98 1 ∷ into 65535 2 1 17 ∷ into 255 2 65535 2 ∷ out 255 257 2 2 ∷ inner 255 65535 1 65535 2 ∷ into 65535 1 2 3 ∷ [])
     (0x401c000000000000 ∷ [])
     (steps 0 ∷ [])
     ≡ seen
@@ -208,7 +208,7 @@ case-143 = refl
 
 -- 100186
 pub case-144 :
-    play (least 4 0 1 3 2 2 ∷ least 6 0 4 1 3 2 ∷ proc 3 0 1 1 full ∷ proc 7 0 1 2 full ∷ proc 1 0 1 2 full ∷ []) (link 4 2 3 1 ∷ link 1 2 7 1 ∷ link 7 2 3 1 ∷ link 3 1 99 4 ∷ link 1 2 4 3 ∷ link 4 2 1 1 ∷ link 7 2 3 1 ∷ link 6 2 1 1 ∷ link 4 2 4 2 ∷ link 1 2 4 1 ∷ []) []
+    play (least 4 0 1 3 2 2 ∷ least 6 0 4 1 3 2 ∷ proc 3 0 1 1 32 ∷ proc 7 0 1 2 32 ∷ proc 1 0 1 2 32 ∷ []) (link 4 2 3 1 ∷ link 1 2 7 1 ∷ link 7 2 3 1 ∷ link 3 1 99 4 ∷ link 1 2 4 3 ∷ link 4 2 1 1 ∷ link 7 2 3 1 ∷ link 6 2 1 1 ∷ link 4 2 4 2 ∷ link 1 2 4 1 ∷ []) []
     (0x3fb999999999999a ∷ [])
     (job 4 2 1 ∷ job 4 1 1 ∷ step ∷ look ∷ job 3 1 1 ∷ job 3 1 2 ∷ job 1 1 3 ∷ step ∷ [])
     ≡ seen
@@ -241,7 +241,7 @@ case-146 = refl
 
 -- 100190
 pub case-147 :
-    play (coup 255 0 ∷ coup 32768 255 ∷ proc 256 32768 1 2 2 ∷ proc 257 32768 1 2 0 ∷ proc 1 32768 1 1 1 ∷ []) (link 255 2 99 4 ∷ link 255 2 255 1 ∷ link 255 2 99 3 ∷ []) (into 32768 1 1 1 ∷ out 255 32768 2 2 ∷ inner 32768 256 2 1 1 ∷ into 255 1 32768 1 ∷ inner 32768 256 2 257 1 ∷ inner 32768 256 2 1 1 ∷ into 32768 1 1 1 ∷ out 255 32768 4 2 ∷ out 255 32768 2 2 ∷ into 255 1 32768 1 ∷ [])
+    play (coup 255 0 ∷ coup 32768 255 ∷ proc 256 32768 1 2 full ∷ proc 257 32768 1 2 0 ∷ proc 1 32768 1 1 1 ∷ []) (link 255 2 99 4 ∷ link 255 2 255 1 ∷ link 255 2 99 3 ∷ []) (into 32768 1 1 1 ∷ out 255 32768 2 2 ∷ inner 32768 256 2 1 1 ∷ into 255 1 32768 1 ∷ inner 32768 256 2 257 1 ∷ inner 32768 256 2 1 1 ∷ into 32768 1 1 1 ∷ out 255 32768 4 2 ∷ out 255 32768 2 2 ∷ into 255 1 32768 1 ∷ [])
     (0x4010000000000000 ∷ 0x4004000000000000 ∷ [])
     (job 255 4 1 ∷ job 255 1 2 ∷ job 255 1 2 ∷ job 255 1 1 ∷ reset-global-time ∷ job 255 1 1 ∷ job 255 1 3 ∷ job 255 1 1 ∷ reset-messages ∷ job 255 1 1 ∷ status 255 ∷ status 1 ∷ step ∷ look ∷ steps 1 ∷ look ∷ step ∷ [])
     ≡ seen
@@ -263,7 +263,7 @@ case-148 = refl
 
 -- 100194
 pub case-149 :
-    play (most 4096 0 3 4 1 1 ∷ most 65534 0 3 1 4 2 ∷ proc 1 0 1 1 2 ∷ coup 257 0 ∷ bat 255 257 1 2 4611686018427387904 0 ∷ []) (link 1 1 257 4 ∷ link 257 2 4096 1 ∷ link 257 2 4096 4 ∷ link 65534 2 4096 3 ∷ link 257 1 65534 65000 ∷ link 4096 1 257 1 ∷ link 1 1 65534 1 ∷ link 257 2 99 4 ∷ link 65534 2 4096 1 ∷ link 65534 2 65534 3 ∷ link 4096 1 4096 3 ∷ []) (inner 257 255 2 98 3 ∷ inner 257 255 2 255 4 ∷ inner 257 255 2 98 4 ∷ into 257 1 255 4 ∷ inner 257 255 2 255 1 ∷ into 257 2 255 3 ∷ out 257 255 2 2 ∷ [])
+    play (most 4096 0 3 4 1 1 ∷ most 65534 0 3 1 4 2 ∷ proc 1 0 1 1 full ∷ coup 257 0 ∷ bat 255 257 1 2 4611686018427387904 0 ∷ []) (link 1 1 257 4 ∷ link 257 2 4096 1 ∷ link 257 2 4096 4 ∷ link 65534 2 4096 3 ∷ link 257 1 65534 65000 ∷ link 4096 1 257 1 ∷ link 1 1 65534 1 ∷ link 257 2 99 4 ∷ link 65534 2 4096 1 ∷ link 65534 2 65534 3 ∷ link 4096 1 4096 3 ∷ []) (inner 257 255 2 98 3 ∷ inner 257 255 2 255 4 ∷ inner 257 255 2 98 4 ∷ into 257 1 255 4 ∷ inner 257 255 2 255 1 ∷ into 257 2 255 3 ∷ out 257 255 2 2 ∷ [])
     (0x3ff0000000000000 ∷ 0x3fd5555555555555 ∷ [])
     (job 1 1 1 ∷ step ∷ look ∷ step ∷ look ∷ inject 0 0 257 1 0x3fd2492492492492 1 ∷ step ∷ [])
     ≡ seen

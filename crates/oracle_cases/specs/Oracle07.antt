@@ -21,12 +21,12 @@ case-151 = refl
 
 -- 100197
 pub case-152 :
-    play (proc 1 0 1 2 2 ∷ []) (link 1 2 99 2 ∷ link 1 2 1 1 ∷ link 1 2 99 2 ∷ []) []
+    play (proc 1 0 1 2 full ∷ []) (link 1 2 99 2 ∷ link 1 2 1 1 ∷ link 1 2 99 2 ∷ []) []
     (0 ∷ 0x4004000000000000 ∷ 0x3ff0000000000000 ∷ 0x3fd5555555555555 ∷ [])
     (inject 65535 3 1 1 0x3ff0000000000000 3 ∷ inject 0 0 1 1 0x3ff0000000000000 2 ∷ inject 65535 3 1 1 0 1 ∷ job 1 1 3 ∷ inject 0 0 1 1 0x401c000000000000 2 ∷ step ∷ look ∷ job 1 1 1 ∷ job 1 1 2 ∷ reset-global-time ∷ steps 0 ∷ look ∷ status 1 ∷ step ∷ look ∷ steps 1 ∷ look ∷ step ∷ [])
     ≡ seen
-    (ran 1 ((1, 2, 99, 2, 0, 3) ∷ (1, 2, 1, 1, 0, 3) ∷ (1, 2, 99, 2, 0, 3) ∷ []) 0 1 ∷ holds (pPassive 0 (2 ∷ []) ∷ []) ((1, 2, 99, 2, 0, 3) ∷ (1, 2, 1, 1, 0, 3) ∷ (1, 2, 99, 2, 0, 3) ∷ []) ∷ ran 0 [] 0 1 ∷ holds (pPassive 0 (2 ∷ []) ∷ []) ((1, 2, 99, 2, 0, 3) ∷ (1, 2, 1, 1, 0, 3) ∷ (1, 2, 99, 2, 0, 3) ∷ (0, 0, 1, 1, 0, 1) ∷ (0, 0, 1, 1, 0, 2) ∷ []) ∷ says (OfProcessor working.Passive) ∷ ran 1 [] 0 2 ∷ holds (pActive 0x4004000000000000 (2 ∷ 3 ∷ []) ∷ []) [] ∷ ran 1 ((1, 2, 99, 2, 0x4004000000000000, 2) ∷ (1, 2, 1, 1, 0x4004000000000000, 2) ∷ (1, 2, 99, 2, 0x4004000000000000, 2) ∷ []) 0x4004000000000000 2 ∷ holds (pPassive 0 (3 ∷ []) ∷ []) ((1, 2, 99, 2, 0x4004000000000000, 2) ∷ (1, 2, 1, 1, 0x4004000000000000, 2) ∷ (1, 2, 99, 2, 0x4004000000000000, 2) ∷ []) ∷ ran 1 [] 0x4004000000000000 3 ∷ [])
-    (pActive 0x3ff0000000000000 (3 ∷ 2 ∷ []) ∷ []) []
+    (ran 1 ((1, 2, 99, 2, 0, 3) ∷ (1, 2, 1, 1, 0, 3) ∷ (1, 2, 99, 2, 0, 3) ∷ []) 0 1 ∷ holds (pPassive 0 (2 ∷ 1 ∷ 3 ∷ 2 ∷ []) ∷ []) ((1, 2, 99, 2, 0, 3) ∷ (1, 2, 1, 1, 0, 3) ∷ (1, 2, 99, 2, 0, 3) ∷ []) ∷ ran 0 [] 0 1 ∷ holds (pPassive 0 (2 ∷ 1 ∷ 3 ∷ 2 ∷ []) ∷ []) ((1, 2, 99, 2, 0, 3) ∷ (1, 2, 1, 1, 0, 3) ∷ (1, 2, 99, 2, 0, 3) ∷ (0, 0, 1, 1, 0, 1) ∷ (0, 0, 1, 1, 0, 2) ∷ []) ∷ says (OfProcessor working.Passive) ∷ ran 1 [] 0 2 ∷ holds (pActive 0x4004000000000000 (2 ∷ 1 ∷ 3 ∷ 2 ∷ 3 ∷ 1 ∷ 2 ∷ []) ∷ []) [] ∷ ran 1 ((1, 2, 99, 2, 0x4004000000000000, 2) ∷ (1, 2, 1, 1, 0x4004000000000000, 2) ∷ (1, 2, 99, 2, 0x4004000000000000, 2) ∷ []) 0x4004000000000000 2 ∷ holds (pPassive 0 (1 ∷ 3 ∷ 2 ∷ 3 ∷ 1 ∷ 2 ∷ []) ∷ []) ((1, 2, 99, 2, 0x4004000000000000, 2) ∷ (1, 2, 1, 1, 0x4004000000000000, 2) ∷ (1, 2, 99, 2, 0x4004000000000000, 2) ∷ []) ∷ ran 1 [] 0x4004000000000000 3 ∷ [])
+    (pActive 0x3ff0000000000000 (1 ∷ 3 ∷ 2 ∷ 3 ∷ 1 ∷ 2 ∷ 2 ∷ []) ∷ []) []
 unfolding play
 case-152 = refl
 
@@ -43,7 +43,7 @@ case-153 = refl
 
 -- 100200
 pub case-154 :
-    play (proc 5 0 1 2 2 ∷ proc 1 0 1 1 0 ∷ proc 9 0 1 1 1 ∷ proc 3 0 1 2 full ∷ proc 8 0 1 1 1 ∷ []) (link 5 2 9 1 ∷ link 9 1 8 1 ∷ link 3 2 8 1 ∷ link 1 1 9 1 ∷ link 9 1 3 1 ∷ link 8 1 1 1 ∷ link 1 1 3 1 ∷ link 9 1 8 1 ∷ []) []
+    play (proc 5 0 1 2 full ∷ proc 1 0 1 1 0 ∷ proc 9 0 1 1 1 ∷ proc 3 0 1 2 32 ∷ proc 8 0 1 1 1 ∷ []) (link 5 2 9 1 ∷ link 9 1 8 1 ∷ link 3 2 8 1 ∷ link 1 1 9 1 ∷ link 9 1 3 1 ∷ link 8 1 1 1 ∷ link 1 1 3 1 ∷ link 9 1 8 1 ∷ []) []
     []
     (inject 5 3 8 1 0x3fb999999999999a 2147483648 ∷ job 1 1 7 ∷ status 96 ∷ job 9 1 0 ∷ job 1 1 7 ∷ steps 4 ∷ [])
     ≡ seen
@@ -65,7 +65,7 @@ case-155 = refl
 
 -- 100202
 pub case-156 :
-    play (proc 9 0 1 2 2 ∷ bat 2 0 1 1 2 0x3fd5555555555555 ∷ proc 7 0 1 2 3 ∷ proc 5 0 1 2 2 ∷ proc 6 0 1 2 1 ∷ []) (link 5 2 9 1 ∷ link 2 1 7 1 ∷ link 6 2 9 1 ∷ link 7 2 6 1 ∷ link 9 2 2 4 ∷ link 9 2 7 65000 ∷ []) []
+    play (proc 9 0 1 2 full ∷ bat 2 0 1 1 2 0x3fd5555555555555 ∷ proc 7 0 1 2 3 ∷ proc 5 0 1 2 full ∷ proc 6 0 1 2 1 ∷ []) (link 5 2 9 1 ∷ link 2 1 7 1 ∷ link 6 2 9 1 ∷ link 7 2 6 1 ∷ link 9 2 2 4 ∷ link 9 2 7 65000 ∷ []) []
     (0x3fd3333333333333 ∷ 0x4028b0a3d70a3d71 ∷ [])
     (job 5 1 2 ∷ until 0x3ff0000000000000 504 ∷ look ∷ steps 3 ∷ [])
     ≡ seen
@@ -76,7 +76,7 @@ case-156 = refl
 
 -- 100203
 pub case-157 :
-    play (proc 1 0 1 1 full ∷ proc 5 0 1 2 full ∷ coup 9 0 ∷ []) (link 5 2 1 9 ∷ link 1 1 9 1 ∷ link 1 1 9 3 ∷ []) []
+    play (proc 1 0 1 1 32 ∷ proc 5 0 1 2 32 ∷ coup 9 0 ∷ []) (link 5 2 1 9 ∷ link 1 1 9 1 ∷ link 1 1 9 3 ∷ []) []
     (0x3fd3333333333333 ∷ 0x4004000000000000 ∷ 0x3fe6666666666666 ∷ [])
     (job 1 1 1 ∷ step ∷ look ∷ step ∷ look ∷ steps 1 ∷ look ∷ inject 0 0 5 1 0x401c000000000000 1 ∷ until 0x3fd999999999999a 2 ∷ look ∷ inject 0 0 5 1 0x3fd2492492492492 3 ∷ job 1 1 3 ∷ until 0x3ffccccccccccccc 500 ∷ [])
     ≡ seen
@@ -87,7 +87,7 @@ case-157 = refl
 
 -- 100204
 pub case-158 :
-    play (bat 7 0 1 2 2 0x401c000000000000 ∷ bat 6 0 1 2 3 0x4028b0a3d70a3d71 ∷ proc 9 0 1 1 2 ∷ proc 4 0 1 1 full ∷ most 5 0 4 3 2 1 ∷ proc 8 0 1 1 0 ∷ proc 2 0 1 1 2 ∷ []) (link 4 1 5 4 ∷ link 4 1 5 2 ∷ link 2 1 7 4 ∷ link 6 2 5 2 ∷ link 8 1 2 1 ∷ link 6 2 8 1 ∷ link 9 1 5 3 ∷ link 5 1 5 3 ∷ link 5 1 5 3 ∷ link 9 1 4 1 ∷ []) []
+    play (bat 7 0 1 2 2 0x401c000000000000 ∷ bat 6 0 1 2 3 0x4028b0a3d70a3d71 ∷ proc 9 0 1 1 2 ∷ proc 4 0 1 1 32 ∷ most 5 0 4 3 2 1 ∷ proc 8 0 1 1 0 ∷ proc 2 0 1 1 full ∷ []) (link 4 1 5 4 ∷ link 4 1 5 2 ∷ link 2 1 7 4 ∷ link 6 2 5 2 ∷ link 8 1 2 1 ∷ link 6 2 8 1 ∷ link 9 1 5 3 ∷ link 5 1 5 3 ∷ link 5 1 5 3 ∷ link 9 1 4 1 ∷ []) []
     (0x3ff0000000000000 ∷ 0x3ff0000000000000 ∷ [])
     (job 7 1 1 ∷ job 4 1 3 ∷ job 6 4 3 ∷ step ∷ look ∷ until 0x3fb999999999999a 2 ∷ look ∷ steps 1 ∷ look ∷ steps 4 ∷ [])
     ≡ seen
@@ -98,7 +98,7 @@ case-158 = refl
 
 -- 100205
 pub case-159 :
-    play (coup 4 0 ∷ coup 1 4 ∷ proc 7 0 1 2 full ∷ least 3 4 4 2 3 1 ∷ coup 2 1 ∷ proc 5 4 1 2 0 ∷ []) (link 7 2 99 1 ∷ link 4 2 4 1 ∷ link 4 2 4 1 ∷ link 4 2 99 4 ∷ link 4 3 99 2 ∷ []) (inner 1 2 1 2 2 ∷ into 1 2 2 2 ∷ into 1 1 2 2 ∷ into 1 1 2 1 ∷ into 4 1 5 1 ∷ into 4 1 1 1 ∷ [])
+    play (coup 4 0 ∷ coup 1 4 ∷ proc 7 0 1 2 32 ∷ least 3 4 4 2 3 1 ∷ coup 2 1 ∷ proc 5 4 1 2 0 ∷ []) (link 7 2 99 1 ∷ link 4 2 4 1 ∷ link 4 2 4 1 ∷ link 4 2 99 4 ∷ link 4 3 99 2 ∷ []) (inner 1 2 1 2 2 ∷ into 1 2 2 2 ∷ into 1 1 2 2 ∷ into 1 1 2 1 ∷ into 4 1 5 1 ∷ into 4 1 1 1 ∷ [])
     (0x401c000000000000 ∷ 0x401c000000000000 ∷ [])
     (job 7 1 0 ∷ job 97 1 2147483648 ∷ status 2 ∷ step ∷ look ∷ step ∷ look ∷ job 7 1 2147483648 ∷ job 7 1 4294967295 ∷ job 7 1 4294967295 ∷ job 7 1 7 ∷ job 97 1 0 ∷ steps 3 ∷ [])
     ≡ seen
@@ -109,7 +109,7 @@ case-159 = refl
 
 -- 100206
 pub case-160 :
-    play (coup 32768 0 ∷ bat 1 32768 1 2 4 0x4010000000000000 ∷ proc 255 32768 1 1 2 ∷ proc 256 32768 1 2 3 ∷ []) (link 32768 1 99 2 ∷ link 32768 1 32768 1 ∷ link 32768 2 99 4 ∷ []) (out 32768 1 2 2 ∷ inner 32768 1 2 255 1 ∷ out 32768 256 2 2 ∷ inner 32768 1 2 256 1 ∷ inner 32768 1 2 255 1 ∷ into 32768 1 255 1 ∷ out 32768 1 2 1 ∷ inner 32768 1 2 1 3 ∷ [])
+    play (coup 32768 0 ∷ bat 1 32768 1 2 4 0x4010000000000000 ∷ proc 255 32768 1 1 full ∷ proc 256 32768 1 2 3 ∷ []) (link 32768 1 99 2 ∷ link 32768 1 32768 1 ∷ link 32768 2 99 4 ∷ []) (out 32768 1 2 2 ∷ inner 32768 1 2 255 1 ∷ out 32768 256 2 2 ∷ inner 32768 1 2 256 1 ∷ inner 32768 1 2 255 1 ∷ into 32768 1 255 1 ∷ out 32768 1 2 1 ∷ inner 32768 1 2 1 3 ∷ [])
     (0x3fb999999999999a ∷ 0x3fb999999999999a ∷ 0x4004000000000000 ∷ 0x3ff0000000000000 ∷ [])
     (job 32768 1 3 ∷ job 32768 1 3 ∷ step ∷ look ∷ reset-global-time ∷ until 0 2 ∷ look ∷ steps 3 ∷ look ∷ job 32768 1 2 ∷ reset-global-time ∷ until 0 501 ∷ look ∷ until 0x401c000000000000 2 ∷ look ∷ job 32768 1 1 ∷ steps 0 ∷ look ∷ step ∷ look ∷ steps 2 ∷ [])
     ≡ seen
@@ -120,7 +120,7 @@ case-160 = refl
 
 -- 100209
 pub case-161 :
-    play (coup 6 0 ∷ bat 5 6 1 2 3 0x3fd2492492492492 ∷ proc 7 6 1 1 8 ∷ proc 8 6 1 1 full ∷ []) (link 8 1 6 2 ∷ link 6 2 6 1 ∷ link 6 2 99 3 ∷ link 6 2 6 1 ∷ []) (inner 6 8 1 7 1 ∷ into 6 1 8 1 ∷ into 6 2 5 1 ∷ out 6 8 1 2 ∷ out 6 7 1 2 ∷ into 6 1 8 1 ∷ inner 6 7 1 8 1 ∷ inner 6 8 1 98 1 ∷ [])
+    play (coup 6 0 ∷ bat 5 6 1 2 3 0x3fd2492492492492 ∷ proc 7 6 1 1 8 ∷ proc 8 6 1 1 32 ∷ []) (link 8 1 6 2 ∷ link 6 2 6 1 ∷ link 6 2 99 3 ∷ link 6 2 6 1 ∷ []) (inner 6 8 1 7 1 ∷ into 6 1 8 1 ∷ into 6 2 5 1 ∷ out 6 8 1 2 ∷ out 6 7 1 2 ∷ into 6 1 8 1 ∷ inner 6 7 1 8 1 ∷ inner 6 8 1 98 1 ∷ [])
     (0x4004000000000000 ∷ 0x3fd2492492492492 ∷ 0x4004000000000000 ∷ [])
     (job 6 1 2 ∷ job 6 1 1 ∷ job 6 2 3 ∷ job 6 1 2 ∷ job 6 1 2 ∷ job 6 2 2 ∷ inject 0 0 6 2 0x3fd3333333333333 2 ∷ step ∷ look ∷ until 0x3ff0000000000000 501 ∷ look ∷ steps 2 ∷ [])
     ≡ seen
@@ -144,7 +144,7 @@ case-162 = refl
 pub case-163 :
     play (most 7 0 1000 256 255 256 ∷ most 1 0 1000 256 32768 256 ∷ proc 9 0 256 1000 2 ∷ bat 3 0 256 256 2 0x3fd5555555555555 ∷ bat 5 0 256 1000 4 0x3fd3333333333333 ∷ least 8 0 32768 1000 256 1000 ∷ []) (link 3 256 1 32768 ∷ link 5 1000 8 32768 ∷ link 5 1000 7 255 ∷ link 5 1000 7 1000 ∷ link 3 256 8 1000 ∷ link 3 256 1 1000 ∷ link 8 1000 8 1000 ∷ link 9 1000 3 1000 ∷ link 1 256 9 9 ∷ link 8 1000 5 255 ∷ link 5 1000 3 256 ∷ link 7 256 7 256 ∷ link 8 1000 8 256 ∷ link 1 256 1 256 ∷ []) []
     (0x4010000000000000 ∷ 0x4004000000000000 ∷ 0x3fb999999999999a ∷ [])
-    (job 9 256 1 ∷ steps 2 ∷ look ∷ reset-messages ∷ step ∷ look ∷ inject 0 0 9 256 0x4004000000000000 2 ∷ status 96 ∷ job 3 256 3 ∷ inject 0 0 9 256 0x3fe6666666666666 3 ∷ step ∷ look ∷ put-in (coup 6 0 ∷ coup 5 6 ∷ proc 3 5 256 1000 2 ∷ proc 9 5 256 256 full ∷ proc 2 5 256 256 3 ∷ most 7 6 32768 255 1000 256 ∷ []) (link 6 1000 99 256 ∷ link 5 255 6 255 ∷ link 6 1000 99 255 ∷ link 6 1000 99 256 ∷ []) (into 6 256 7 32768 ∷ out 6 5 256 1000 ∷ into 5 1000 3 256 ∷ inner 6 5 32768 5 1000 ∷ into 6 255 7 1000 ∷ into 5 1000 9 256 ∷ inner 5 2 256 9 65000 ∷ inner 5 2 256 3 256 ∷ into 6 256 5 256 ∷ inner 6 5 1000 5 1000 ∷ inner 5 3 1000 9 256 ∷ out 6 5 32768 1000 ∷ out 6 5 256 256 ∷ into 5 256 2 256 ∷ into 6 1000 7 255 ∷ []) ∷ steps 0 ∷ [])
+    (job 9 256 1 ∷ steps 2 ∷ look ∷ reset-messages ∷ step ∷ look ∷ inject 0 0 9 256 0x4004000000000000 2 ∷ status 96 ∷ job 3 256 3 ∷ inject 0 0 9 256 0x3fe6666666666666 3 ∷ step ∷ look ∷ put-in (coup 6 0 ∷ coup 5 6 ∷ proc 3 5 256 1000 full ∷ proc 9 5 256 256 32 ∷ proc 2 5 256 256 3 ∷ most 7 6 32768 255 1000 256 ∷ []) (link 6 1000 99 256 ∷ link 5 255 6 255 ∷ link 6 1000 99 255 ∷ link 6 1000 99 256 ∷ []) (into 6 256 7 32768 ∷ out 6 5 256 1000 ∷ into 5 1000 3 256 ∷ inner 6 5 32768 5 1000 ∷ into 6 255 7 1000 ∷ into 5 1000 9 256 ∷ inner 5 2 256 9 65000 ∷ inner 5 2 256 3 256 ∷ into 6 256 5 256 ∷ inner 6 5 1000 5 1000 ∷ inner 5 3 1000 9 256 ∷ out 6 5 32768 1000 ∷ out 6 5 256 256 ∷ into 5 256 2 256 ∷ into 6 1000 7 255 ∷ []) ∷ steps 0 ∷ [])
     ≡ seen
     (ran 2 ((9, 1000, 3, 1000, 0x4010000000000000, 1) ∷ []) 0x4010000000000000 1 ∷ holds (s0 ∷ s0 ∷ pPassive 0 [] ∷ b0 ∷ b0 ∷ s0 ∷ []) ((9, 1000, 3, 1000, 0x4010000000000000, 1) ∷ []) ∷ ran 1 [] 0x4010000000000000 1 ∷ holds (s0 ∷ s0 ∷ p0 ∷ b0 ∷ b0 ∷ s0 ∷ []) [] ∷ refuses 4 ∷ ran 1 [] 0x4010000000000000 2 ∷ holds (s0 ∷ s0 ∷ pActive 0x4004000000000000 (2 ∷ 3 ∷ []) ∷ bBatching 0x3fd5555555555555 (3 ∷ []) ∷ b0 ∷ s0 ∷ []) [] ∷ ran 0 [] 0x4010000000000000 2 ∷ [])
     (c0 ∷ c0 ∷ p0 ∷ p0 ∷ p0 ∷ s0 ∷ []) []
@@ -175,7 +175,7 @@ case-165 = refl
 
 -- 100215
 pub case-166 :
-    play (proc 4 0 1 2 full ∷ proc 6 0 1 2 1 ∷ least 2 0 1 3 2 1 ∷ proc 5 0 1 1 1 ∷ []) (link 5 1 2 3 ∷ link 5 1 2 1 ∷ link 6 2 2 1 ∷ link 6 2 2 2 ∷ link 5 1 4 1 ∷ link 2 1 4 1 ∷ link 2 1 4 1 ∷ link 5 1 2 1 ∷ link 5 1 4 1 ∷ []) []
+    play (proc 4 0 1 2 32 ∷ proc 6 0 1 2 1 ∷ least 2 0 1 3 2 1 ∷ proc 5 0 1 1 1 ∷ []) (link 5 1 2 3 ∷ link 5 1 2 1 ∷ link 6 2 2 1 ∷ link 6 2 2 2 ∷ link 5 1 4 1 ∷ link 2 1 4 1 ∷ link 2 1 4 1 ∷ link 5 1 2 1 ∷ link 5 1 4 1 ∷ []) []
     (0x4010000000000000 ∷ 0x4004000000000000 ∷ 0x3fe6666666666666 ∷ 0x4004000000000000 ∷ [])
     (job 4 1 2 ∷ job 5 1 1 ∷ job 4 1 2 ∷ inject 0 0 5 1 0x3fb999999999999a 3 ∷ job 6 1 1 ∷ inject 0 0 2 1 0x3e112e0be826d695 1 ∷ job 2 3 1 ∷ job 6 1 1 ∷ job 5 1 1 ∷ step ∷ look ∷ until 0x3fb999999999999a 2 ∷ look ∷ step ∷ look ∷ step ∷ look ∷ steps 1 ∷ look ∷ step ∷ look ∷ steps 3 ∷ [])
     ≡ seen
@@ -197,7 +197,7 @@ case-167 = refl
 
 -- 100217
 pub case-168 :
-    play (coup 3 0 ∷ coup 5 3 ∷ bat 9 5 1 2 2 0x3fd5555555555555 ∷ proc 2 5 1 2 1 ∷ proc 4 5 1 2 2 ∷ bat 6 5 1 2 4 0x3fb999999999999a ∷ []) (link 6 2 3 4 ∷ link 3 1 3 2 ∷ link 3 1 3 2 ∷ link 3 2 99 2 ∷ []) (into 3 1 5 1 ∷ into 5 2 6 1 ∷ inner 3 5 1 5 1 ∷ out 3 5 2 2 ∷ out 3 5 1 1 ∷ into 3 1 5 2 ∷ out 5 9 2 1 ∷ inner 3 5 2 5 1 ∷ into 3 2 5 2 ∷ into 5 1 4 1 ∷ inner 5 9 2 4 1 ∷ inner 5 6 2 2 1 ∷ [])
+    play (coup 3 0 ∷ coup 5 3 ∷ bat 9 5 1 2 2 0x3fd5555555555555 ∷ proc 2 5 1 2 1 ∷ proc 4 5 1 2 full ∷ bat 6 5 1 2 4 0x3fb999999999999a ∷ []) (link 6 2 3 4 ∷ link 3 1 3 2 ∷ link 3 1 3 2 ∷ link 3 2 99 2 ∷ []) (into 3 1 5 1 ∷ into 5 2 6 1 ∷ inner 3 5 1 5 1 ∷ out 3 5 2 2 ∷ out 3 5 1 1 ∷ into 3 1 5 2 ∷ out 5 9 2 1 ∷ inner 3 5 2 5 1 ∷ into 3 2 5 2 ∷ into 5 1 4 1 ∷ inner 5 9 2 4 1 ∷ inner 5 6 2 2 1 ∷ [])
     (0x4004000000000000 ∷ 0x4340000000000000 ∷ 0x3fb999999999999a ∷ 0x3fd2492492492492 ∷ 0x3e112e0be826d695 ∷ [])
     (job 97 2 3 ∷ until 0x4004000000000000 0 ∷ look ∷ step ∷ look ∷ inject 0 0 3 1 0x4004000000000000 2 ∷ job 3 2 2 ∷ put-in (coup 9 0 ∷ coup 4 9 ∷ proc 1 4 1 1 8 ∷ bat 6 4 1 1 4 0x0000000000000001 ∷ proc 3 4 1 2 2 ∷ []) (link 3 2 9 1 ∷ link 9 1 99 3 ∷ link 9 1 99 3 ∷ link 9 1 99 1 ∷ []) (inner 4 3 2 3 1 ∷ out 9 4 1 1 ∷ inner 4 1 1 1 1 ∷ inner 4 3 2 1 1 ∷ into 4 1 3 1 ∷ out 4 3 2 1 ∷ into 4 2 1 1 ∷ out 9 4 1 2 ∷ into 9 1 4 2 ∷ out 4 3 2 1 ∷ into 9 1 4 1 ∷ inner 4 6 1 3 1 ∷ []) ∷ steps 1 ∷ look ∷ job 9 1 3 ∷ step ∷ look ∷ step ∷ look ∷ steps 3 ∷ look ∷ step ∷ look ∷ step ∷ look ∷ step ∷ [])
     ≡ seen
@@ -208,7 +208,7 @@ case-168 = refl
 
 -- 100218
 pub case-169 :
-    play (proc 5 0 1 2 full ∷ proc 9 0 1 2 full ∷ most 2 0 4 1 3 1 ∷ []) (link 5 2 2 9 ∷ link 5 2 2 3 ∷ link 9 2 2 4 ∷ link 2 1 9 1 ∷ link 5 2 2 4 ∷ link 5 2 2 1 ∷ link 5 2 2 1 ∷ link 2 1 5 1 ∷ []) []
+    play (proc 5 0 1 2 32 ∷ proc 9 0 1 2 32 ∷ most 2 0 4 1 3 1 ∷ []) (link 5 2 2 9 ∷ link 5 2 2 3 ∷ link 9 2 2 4 ∷ link 2 1 9 1 ∷ link 5 2 2 4 ∷ link 5 2 2 1 ∷ link 5 2 2 1 ∷ link 2 1 5 1 ∷ []) []
     (0x4004000000000000 ∷ 0x3ff0000000000000 ∷ 0x4028b0a3d70a3d71 ∷ [])
     (inject 0 0 9 1 0x3fe6666666666666 3 ∷ step ∷ look ∷ step ∷ look ∷ step ∷ look ∷ job 5 1 2 ∷ job 5 1 1 ∷ job 5 1 1 ∷ job 5 1 3 ∷ inject 65535 3 9 1 0x3fd2492492492492 2 ∷ inject 65535 3 9 1 0 2 ∷ step ∷ look ∷ step ∷ look ∷ steps 3 ∷ [])
     ≡ seen
@@ -274,7 +274,7 @@ case-174 = refl
 
 -- 100228
 pub case-175 :
-    play (coup 8 0 ∷ bat 3 8 1 1 2 0x4010000000000000 ∷ proc 1 8 1 2 2 ∷ proc 2 8 1 2 3 ∷ []) (link 8 2 99 2 ∷ []) (out 8 3 1 2 ∷ inner 8 3 1 3 2 ∷ out 8 1 2 1 ∷ inner 8 1 2 1 1 ∷ into 8 1 3 4 ∷ inner 8 2 2 1 1 ∷ [])
+    play (coup 8 0 ∷ bat 3 8 1 1 2 0x4010000000000000 ∷ proc 1 8 1 2 full ∷ proc 2 8 1 2 3 ∷ []) (link 8 2 99 2 ∷ []) (out 8 3 1 2 ∷ inner 8 3 1 3 2 ∷ out 8 1 2 1 ∷ inner 8 1 2 1 1 ∷ into 8 1 3 4 ∷ inner 8 2 2 1 1 ∷ [])
     (0 ∷ [])
     (job 8 1 7 ∷ job 8 2 4294967295 ∷ job 8 1 4294967295 ∷ job 8 1 4294967295 ∷ step ∷ look ∷ job 8 1 0 ∷ step ∷ look ∷ job 8 1 0 ∷ job 8 1 0 ∷ until 0 501 ∷ look ∷ status 3 ∷ until 0x4004000000000000 9 ∷ [])
     ≡ seen

@@ -54,7 +54,7 @@ case-179 = refl
 
 -- 100236
 pub case-180 :
-    play (proc 6 0 1 2 3 ∷ coup 1 0 ∷ bat 8 0 1 2 3 0 ∷ proc 5 1 1 1 full ∷ []) (link 1 1 6 1 ∷ link 8 2 1 1 ∷ link 8 2 1 1 ∷ link 6 2 6 1 ∷ link 6 2 6 1 ∷ link 1 2 8 1 ∷ []) (out 1 5 1 2 ∷ inner 1 5 1 5 1 ∷ out 1 5 1 1 ∷ inner 1 5 1 5 9 ∷ out 1 5 1 2 ∷ inner 1 5 1 5 1 ∷ into 1 1 5 1 ∷ into 1 1 5 1 ∷ inner 1 5 1 5 1 ∷ into 1 1 5 1 ∷ [])
+    play (proc 6 0 1 2 3 ∷ coup 1 0 ∷ bat 8 0 1 2 3 0 ∷ proc 5 1 1 1 32 ∷ []) (link 1 1 6 1 ∷ link 8 2 1 1 ∷ link 8 2 1 1 ∷ link 6 2 6 1 ∷ link 6 2 6 1 ∷ link 1 2 8 1 ∷ []) (out 1 5 1 2 ∷ inner 1 5 1 5 1 ∷ out 1 5 1 1 ∷ inner 1 5 1 5 9 ∷ out 1 5 1 2 ∷ inner 1 5 1 5 1 ∷ into 1 1 5 1 ∷ into 1 1 5 1 ∷ inner 1 5 1 5 1 ∷ into 1 1 5 1 ∷ [])
     (0x3fd3333333333333 ∷ 0 ∷ 0x430c6bf526340004 ∷ [])
     (job 8 3 1 ∷ job 8 2 1 ∷ step ∷ look ∷ reset-global-time ∷ step ∷ look ∷ step ∷ look ∷ inject 0 0 8 1 0x3ff0000000000000 1 ∷ job 8 2 2 ∷ inject 5 3 8 3 0x3fb999999999999a 1 ∷ step ∷ [])
     ≡ seen
@@ -65,7 +65,7 @@ case-180 = refl
 
 -- 100239
 pub case-181 :
-    play (coup 257 0 ∷ coup 65534 257 ∷ proc 65535 65534 1 2 2 ∷ proc 32768 65534 1 1 2 ∷ proc 2 65534 1 2 full ∷ proc 255 65534 1 1 0 ∷ []) (link 257 2 99 2 ∷ link 257 1 99 4 ∷ link 257 1 99 3 ∷ []) (inner 257 65534 2 65534 2 ∷ into 257 2 65534 1 ∷ inner 65534 65535 2 2 1 ∷ out 257 65534 2 1 ∷ inner 65534 2 2 32768 1 ∷ into 65534 1 32768 1 ∷ inner 65534 2 2 32768 1 ∷ inner 65534 2 2 255 1 ∷ inner 257 65534 2 65534 2 ∷ into 65534 2 2 1 ∷ inner 65534 2 2 65535 1 ∷ out 65534 2 2 2 ∷ into 65534 1 32768 1 ∷ inner 257 65534 2 65534 3 ∷ [])
+    play (coup 257 0 ∷ coup 65534 257 ∷ proc 65535 65534 1 2 2 ∷ proc 32768 65534 1 1 2 ∷ proc 2 65534 1 2 32 ∷ proc 255 65534 1 1 0 ∷ []) (link 257 2 99 2 ∷ link 257 1 99 4 ∷ link 257 1 99 3 ∷ []) (inner 257 65534 2 65534 2 ∷ into 257 2 65534 1 ∷ inner 65534 65535 2 2 1 ∷ out 257 65534 2 1 ∷ inner 65534 2 2 32768 1 ∷ into 65534 1 32768 1 ∷ inner 65534 2 2 32768 1 ∷ inner 65534 2 2 255 1 ∷ inner 257 65534 2 65534 2 ∷ into 65534 2 2 1 ∷ inner 65534 2 2 65535 1 ∷ out 65534 2 2 2 ∷ into 65534 1 32768 1 ∷ inner 257 65534 2 65534 3 ∷ [])
     (0x0000000000000001 ∷ 0x3ff0000000000000 ∷ [])
     (inject 0 0 257 2 0x401c000000000000 2147483648 ∷ step ∷ look ∷ steps 2 ∷ look ∷ steps 2 ∷ [])
     ≡ seen
@@ -87,7 +87,7 @@ case-182 = refl
 
 -- 100242
 pub case-183 :
-    play (coup 1 0 ∷ coup 5 1 ∷ coup 8 5 ∷ coup 6 8 ∷ bat 9 1 1 2 3 0x3fb999999999999a ∷ proc 2 6 1 2 2 ∷ []) (link 8 1 1 1 ∷ link 1 1 99 4 ∷ []) (out 1 5 2 1 ∷ into 5 1 8 3 ∷ inner 8 6 1 6 2 ∷ into 1 1 5 1 ∷ into 1 1 9 3 ∷ out 5 8 1 2 ∷ inner 6 2 2 2 1 ∷ inner 1 5 2 5 1 ∷ inner 1 9 2 9 1 ∷ out 8 6 4 1 ∷ out 1 5 1 1 ∷ inner 1 9 2 9 4 ∷ into 5 1 8 3 ∷ into 8 1 6 2 ∷ inner 6 2 2 98 3 ∷ into 6 2 2 1 ∷ [])
+    play (coup 1 0 ∷ coup 5 1 ∷ coup 8 5 ∷ coup 6 8 ∷ bat 9 1 1 2 3 0x3fb999999999999a ∷ proc 2 6 1 2 full ∷ []) (link 8 1 1 1 ∷ link 1 1 99 4 ∷ []) (out 1 5 2 1 ∷ into 5 1 8 3 ∷ inner 8 6 1 6 2 ∷ into 1 1 5 1 ∷ into 1 1 9 3 ∷ out 5 8 1 2 ∷ inner 6 2 2 2 1 ∷ inner 1 5 2 5 1 ∷ inner 1 9 2 9 1 ∷ out 8 6 4 1 ∷ out 1 5 1 1 ∷ inner 1 9 2 9 4 ∷ into 5 1 8 3 ∷ into 8 1 6 2 ∷ inner 6 2 2 98 3 ∷ into 6 2 2 1 ∷ [])
     []
     (steps 0 ∷ [])
     ≡ seen
@@ -120,7 +120,7 @@ case-185 = refl
 
 -- 100248
 pub case-186 :
-    play (coup 9 0 ∷ proc 7 9 1 1 1 ∷ proc 5 9 1 2 2 ∷ proc 4 9 1 2 full ∷ []) (link 9 2 9 1 ∷ link 9 2 9 2 ∷ link 9 2 99 3 ∷ []) (out 9 5 2 2 ∷ inner 9 5 2 7 1 ∷ inner 9 7 1 4 1 ∷ inner 9 7 1 7 1 ∷ inner 9 5 2 7 1 ∷ into 9 1 4 1 ∷ inner 9 4 2 5 1 ∷ into 9 2 7 1 ∷ inner 9 5 2 4 1 ∷ [])
+    play (coup 9 0 ∷ proc 7 9 1 1 1 ∷ proc 5 9 1 2 full ∷ proc 4 9 1 2 32 ∷ []) (link 9 2 9 1 ∷ link 9 2 9 2 ∷ link 9 2 99 3 ∷ []) (out 9 5 2 2 ∷ inner 9 5 2 7 1 ∷ inner 9 7 1 4 1 ∷ inner 9 7 1 7 1 ∷ inner 9 5 2 7 1 ∷ into 9 1 4 1 ∷ inner 9 4 2 5 1 ∷ into 9 2 7 1 ∷ inner 9 5 2 4 1 ∷ [])
     (0x4004000000000000 ∷ 0 ∷ 0x3fe6666666666666 ∷ 0x3fb999999999999a ∷ 0 ∷ 0x3fd5555555555555 ∷ 0x4340000000000000 ∷ 0x4010000000000000 ∷ [])
     (job 9 1 3 ∷ job 9 1 3 ∷ status 9 ∷ steps 3 ∷ look ∷ job 9 2 1 ∷ reset-global-time ∷ steps 2 ∷ look ∷ step ∷ look ∷ steps 2 ∷ look ∷ step ∷ look ∷ step ∷ [])
     ≡ seen
@@ -131,7 +131,7 @@ case-186 = refl
 
 -- 100250
 pub case-187 :
-    play (bat 5 0 1 2 2 0x3ff0000000000000 ∷ proc 6 0 1 1 1 ∷ proc 3 0 1 1 2 ∷ []) (link 6 1 3 1 ∷ link 6 1 5 1 ∷ link 3 1 5 3 ∷ link 5 2 3 1 ∷ link 5 2 6 1 ∷ link 6 1 5 2 ∷ []) []
+    play (bat 5 0 1 2 2 0x3ff0000000000000 ∷ proc 6 0 1 1 1 ∷ proc 3 0 1 1 full ∷ []) (link 6 1 3 1 ∷ link 6 1 5 1 ∷ link 3 1 5 3 ∷ link 5 2 3 1 ∷ link 5 2 6 1 ∷ link 6 1 5 2 ∷ []) []
     (0x3fd3333333333333 ∷ 0x3fb999999999999a ∷ [])
     (inject 0 0 5 3 0x4028b0a3d70a3d71 3 ∷ until 0x3fb999999999999a 2 ∷ look ∷ step ∷ look ∷ step ∷ look ∷ put-in (bat 4 0 1 2 2 0x3ff0000000000000 ∷ most 3 0 1 3 2 2 ∷ proc 7 0 1 1 3 ∷ []) (link 4 2 4 1 ∷ link 7 1 3 3 ∷ link 7 1 3 1 ∷ link 4 2 3 3 ∷ link 3 2 4 3 ∷ link 7 1 3 2 ∷ link 7 1 3 1 ∷ []) [] ∷ reset-global-time ∷ until 0 2 ∷ [])
     ≡ seen
@@ -142,12 +142,12 @@ case-187 = refl
 
 -- 100254
 pub case-188 :
-    play (most 1 0 4 2 1 2 ∷ coup 257 0 ∷ least 4096 0 3 4 2 1 ∷ coup 65535 257 ∷ proc 65534 65535 1 1 2 ∷ proc 32768 65535 1 2 1 ∷ proc 256 65535 1 1 full ∷ []) (link 4096 1 257 1 ∷ link 1 2 257 1 ∷ link 257 1 4096 3 ∷ link 1 2 4096 2 ∷ link 256 1 257 1 ∷ []) (inner 257 65535 2 65535 1 ∷ out 257 65535 1 1 ∷ out 65535 65534 1 2 ∷ inner 257 65535 2 65535 1 ∷ into 65535 1 65534 1 ∷ inner 257 65535 2 98 1 ∷ out 257 65535 1 2 ∷ inner 65535 32768 2 65534 1 ∷ out 257 65535 1 1 ∷ into 257 1 65535 2 ∷ inner 257 65535 2 65535 1 ∷ inner 65535 32768 2 256 1 ∷ out 65535 256 1 1 ∷ into 65535 2 32768 1 ∷ [])
+    play (most 1 0 4 2 1 2 ∷ coup 257 0 ∷ least 4096 0 3 4 2 1 ∷ coup 65535 257 ∷ proc 65534 65535 1 1 full ∷ proc 32768 65535 1 2 1 ∷ proc 256 65535 1 1 32 ∷ []) (link 4096 1 257 1 ∷ link 1 2 257 1 ∷ link 257 1 4096 3 ∷ link 1 2 4096 2 ∷ link 256 1 257 1 ∷ []) (inner 257 65535 2 65535 1 ∷ out 257 65535 1 1 ∷ out 65535 65534 1 2 ∷ inner 257 65535 2 65535 1 ∷ into 65535 1 65534 1 ∷ inner 257 65535 2 98 1 ∷ out 257 65535 1 2 ∷ inner 65535 32768 2 65534 1 ∷ out 257 65535 1 1 ∷ into 257 1 65535 2 ∷ inner 257 65535 2 65535 1 ∷ inner 65535 32768 2 256 1 ∷ out 65535 256 1 1 ∷ into 65535 2 32768 1 ∷ [])
     (0 ∷ 0x4010000000000000 ∷ 0x3fe6666666666666 ∷ 0 ∷ 0x3fd3333333333333 ∷ 0x3fe6666666666666 ∷ 0x3fe6666666666666 ∷ [])
     (job 4096 4 0 ∷ inject 0 0 257 1 0x3fd2492492492492 7 ∷ job 257 1 2147483648 ∷ inject 0 0 257 4 0x4010000000000000 7 ∷ job 257 1 4294967295 ∷ status 4096 ∷ until 0x4010000000000000 0 ∷ look ∷ until 0 501 ∷ look ∷ steps 3 ∷ look ∷ job 1 4 7 ∷ inject 0 0 1 2 0x401c000000000000 7 ∷ job 257 1 2147483648 ∷ until 0 501 ∷ look ∷ steps 4 ∷ look ∷ step ∷ look ∷ steps 0 ∷ look ∷ job 4096 4 4294967295 ∷ steps 0 ∷ look ∷ step ∷ [])
     ≡ seen
-    (says (Mean none) ∷ spent 0 [] 0 0 ∷ holds (s0 ∷ c0 ∷ s0 ∷ c0 ∷ p0 ∷ p0 ∷ p0 ∷ []) ((0, 0, 4096, 4, 0, 0) ∷ (0, 0, 257, 1, 0x3fd2492492492492, 7) ∷ (0, 0, 257, 1, 0, 2147483648) ∷ (0, 0, 257, 4, 0x4010000000000000, 7) ∷ (0, 0, 257, 1, 0, 4294967295) ∷ []) ∷ reached 1 [] 0 1 ∷ holds (s0 ∷ c0 ∷ sPassive inf ((0, none, some 0) ∷ []) ∷ parks ((65534, 1, 7) ∷ (256, 1, 7) ∷ []) ∷ p0 ∷ pPassive 0 [] ∷ p0 ∷ []) [] ∷ ran 3 ((257, 1, 4096, 3, 0x3fe6666666666666, 7) ∷ (257, 1, 4096, 3, 0x3fe6666666666666, 7) ∷ []) 0x3fe6666666666666 3 ∷ holds (s0 ∷ c0 ∷ sPassive inf ((0, none, some 0) ∷ (7, some 0x3fe6666666666666, none) ∷ []) ∷ c0 ∷ pActive 0x400a666666666666 (7 ∷ []) ∷ p0 ∷ p0 ∷ []) [] ∷ reached 1 [] 0x3fe6666666666666 4 ∷ holds (sPassive inf ((7, some 0x3fe6666666666666, some 0x3fe6666666666666) ∷ []) ∷ c0 ∷ sPassive inf ((0, none, some 0) ∷ (7, some 0x3fe6666666666666, none) ∷ []) ∷ parks ((65534, 1, 2147483648) ∷ (256, 1, 2147483648) ∷ []) ∷ pActive 0x400a666666666666 (7 ∷ []) ∷ pPassive 0 [] ∷ p0 ∷ []) [] ∷ ran 4 ((257, 1, 4096, 3, 0x3ff0000000000000, 2147483648) ∷ (257, 1, 4096, 3, 0x3ff0000000000000, 2147483648) ∷ []) 0x4010000000000000 5 ∷ holds (sPassive inf ((7, some 0x3fe6666666666666, some 0x3fe6666666666666) ∷ []) ∷ parks ((65535, 1, 7) ∷ (65535, 1, 7) ∷ (98, 1, 7) ∷ (65535, 1, 7) ∷ []) ∷ sPassive inf ((0, none, some 0) ∷ (7, some 0x3fe6666666666666, none) ∷ (2147483648, some 0x3ff0000000000000, none) ∷ []) ∷ c0 ∷ pPassive 0 (2147483648 ∷ []) ∷ p0 ∷ p0 ∷ []) [] ∷ ran 1 [] 0x4010000000000000 6 ∷ holds (sPassive inf ((7, some 0x3fe6666666666666, some 0x3fe6666666666666) ∷ []) ∷ c0 ∷ sPassive inf ((0, none, some 0) ∷ (7, some 0x3fe6666666666666, none) ∷ (2147483648, some 0x3ff0000000000000, none) ∷ []) ∷ c0 ∷ pActive 0x3fe6666666666666 (2147483648 ∷ 7 ∷ []) ∷ p0 ∷ p0 ∷ []) [] ∷ ran 0 [] 0x4010000000000000 6 ∷ holds (sPassive inf ((7, some 0x3fe6666666666666, some 0x3fe6666666666666) ∷ []) ∷ c0 ∷ sPassive inf ((0, none, some 0) ∷ (7, some 0x3fe6666666666666, none) ∷ (2147483648, some 0x3ff0000000000000, none) ∷ []) ∷ c0 ∷ pActive 0x3fe6666666666666 (2147483648 ∷ 7 ∷ []) ∷ p0 ∷ p0 ∷ []) [] ∷ ran 0 [] 0x4010000000000000 6 ∷ holds (sPassive inf ((7, some 0x3fe6666666666666, some 0x3fe6666666666666) ∷ []) ∷ c0 ∷ sPassive inf ((0, none, some 0) ∷ (7, some 0x3fe6666666666666, none) ∷ (2147483648, some 0x3ff0000000000000, none) ∷ []) ∷ c0 ∷ pActive 0x3fe6666666666666 (2147483648 ∷ 7 ∷ []) ∷ p0 ∷ p0 ∷ []) ((0, 0, 4096, 4, 0, 4294967295) ∷ []) ∷ ran 1 [] 0x4010000000000000 6 ∷ [])
-    (sPassive inf ((7, some 0x3fe6666666666666, some 0x3fe6666666666666) ∷ []) ∷ c0 ∷ sPassive inf ((0, none, some 0) ∷ (7, some 0x3fe6666666666666, none) ∷ (2147483648, some 0x3ff0000000000000, none) ∷ (4294967295, none, some 0x4010000000000000) ∷ []) ∷ c0 ∷ pActive 0x3fe6666666666666 (2147483648 ∷ 7 ∷ []) ∷ p0 ∷ p0 ∷ []) []
+    (says (Mean none) ∷ spent 0 [] 0 0 ∷ holds (s0 ∷ c0 ∷ s0 ∷ c0 ∷ p0 ∷ p0 ∷ p0 ∷ []) ((0, 0, 4096, 4, 0, 0) ∷ (0, 0, 257, 1, 0x3fd2492492492492, 7) ∷ (0, 0, 257, 1, 0, 2147483648) ∷ (0, 0, 257, 4, 0x4010000000000000, 7) ∷ (0, 0, 257, 1, 0, 4294967295) ∷ []) ∷ reached 1 [] 0 1 ∷ holds (s0 ∷ c0 ∷ sPassive inf ((0, none, some 0) ∷ []) ∷ parks ((65534, 1, 7) ∷ (256, 1, 7) ∷ []) ∷ p0 ∷ pPassive 0 [] ∷ p0 ∷ []) [] ∷ ran 3 ((257, 1, 4096, 3, 0x3fe6666666666666, 7) ∷ (257, 1, 4096, 3, 0x3fe6666666666666, 7) ∷ []) 0x3fe6666666666666 3 ∷ holds (s0 ∷ c0 ∷ sPassive inf ((0, none, some 0) ∷ (7, some 0x3fe6666666666666, none) ∷ []) ∷ c0 ∷ pActive 0x400a666666666666 (7 ∷ []) ∷ p0 ∷ p0 ∷ []) [] ∷ reached 1 [] 0x3fe6666666666666 4 ∷ holds (sPassive inf ((7, some 0x3fe6666666666666, some 0x3fe6666666666666) ∷ []) ∷ c0 ∷ sPassive inf ((0, none, some 0) ∷ (7, some 0x3fe6666666666666, none) ∷ []) ∷ parks ((65534, 1, 2147483648) ∷ (256, 1, 2147483648) ∷ []) ∷ pActive 0x400a666666666666 (7 ∷ []) ∷ pPassive 0 [] ∷ p0 ∷ []) [] ∷ ran 4 ((257, 1, 4096, 3, 0x3ff0000000000000, 2147483648) ∷ (257, 1, 4096, 3, 0x3ff0000000000000, 2147483648) ∷ []) 0x4010000000000000 5 ∷ holds (sPassive inf ((7, some 0x3fe6666666666666, some 0x3fe6666666666666) ∷ []) ∷ parks ((65535, 1, 7) ∷ (65535, 1, 7) ∷ (98, 1, 7) ∷ (65535, 1, 7) ∷ []) ∷ sPassive inf ((0, none, some 0) ∷ (7, some 0x3fe6666666666666, none) ∷ (2147483648, some 0x3ff0000000000000, none) ∷ []) ∷ c0 ∷ pPassive 0 (2147483648 ∷ []) ∷ p0 ∷ p0 ∷ []) [] ∷ ran 1 [] 0x4010000000000000 6 ∷ holds (sPassive inf ((7, some 0x3fe6666666666666, some 0x3fe6666666666666) ∷ []) ∷ c0 ∷ sPassive inf ((0, none, some 0) ∷ (7, some 0x3fe6666666666666, none) ∷ (2147483648, some 0x3ff0000000000000, none) ∷ []) ∷ c0 ∷ pActive 0x3fe6666666666666 (2147483648 ∷ 7 ∷ 7 ∷ 7 ∷ []) ∷ p0 ∷ p0 ∷ []) [] ∷ ran 0 [] 0x4010000000000000 6 ∷ holds (sPassive inf ((7, some 0x3fe6666666666666, some 0x3fe6666666666666) ∷ []) ∷ c0 ∷ sPassive inf ((0, none, some 0) ∷ (7, some 0x3fe6666666666666, none) ∷ (2147483648, some 0x3ff0000000000000, none) ∷ []) ∷ c0 ∷ pActive 0x3fe6666666666666 (2147483648 ∷ 7 ∷ 7 ∷ 7 ∷ []) ∷ p0 ∷ p0 ∷ []) [] ∷ ran 0 [] 0x4010000000000000 6 ∷ holds (sPassive inf ((7, some 0x3fe6666666666666, some 0x3fe6666666666666) ∷ []) ∷ c0 ∷ sPassive inf ((0, none, some 0) ∷ (7, some 0x3fe6666666666666, none) ∷ (2147483648, some 0x3ff0000000000000, none) ∷ []) ∷ c0 ∷ pActive 0x3fe6666666666666 (2147483648 ∷ 7 ∷ 7 ∷ 7 ∷ []) ∷ p0 ∷ p0 ∷ []) ((0, 0, 4096, 4, 0, 4294967295) ∷ []) ∷ ran 1 [] 0x4010000000000000 6 ∷ [])
+    (sPassive inf ((7, some 0x3fe6666666666666, some 0x3fe6666666666666) ∷ []) ∷ c0 ∷ sPassive inf ((0, none, some 0) ∷ (7, some 0x3fe6666666666666, none) ∷ (2147483648, some 0x3ff0000000000000, none) ∷ (4294967295, none, some 0x4010000000000000) ∷ []) ∷ c0 ∷ pActive 0x3fe6666666666666 (2147483648 ∷ 7 ∷ 7 ∷ 7 ∷ []) ∷ p0 ∷ p0 ∷ []) []
 unfolding play
 case-188 = refl
 
@@ -164,7 +164,7 @@ case-189 = refl
 
 -- 100256
 pub case-190 :
-    play (bat 5 0 1 1 4611686018427387904 0x4010000000000000 ∷ proc 4 0 1 2 3 ∷ proc 2 0 1 2 full ∷ coup 9 0 ∷ coup 3 9 ∷ []) (link 5 1 2 1 ∷ link 4 2 4 1 ∷ link 4 2 5 1 ∷ link 9 1 2 1 ∷ link 2 2 5 2 ∷ link 5 1 9 1 ∷ []) (inner 9 3 2 3 1 ∷ into 9 1 3 4 ∷ into 9 1 3 1 ∷ inner 9 3 4 3 3 ∷ inner 9 3 2 3 1 ∷ [])
+    play (bat 5 0 1 1 4611686018427387904 0x4010000000000000 ∷ proc 4 0 1 2 3 ∷ proc 2 0 1 2 32 ∷ coup 9 0 ∷ coup 3 9 ∷ []) (link 5 1 2 1 ∷ link 4 2 4 1 ∷ link 4 2 5 1 ∷ link 9 1 2 1 ∷ link 2 2 5 2 ∷ link 5 1 9 1 ∷ []) (inner 9 3 2 3 1 ∷ into 9 1 3 4 ∷ into 9 1 3 1 ∷ inner 9 3 4 3 3 ∷ inner 9 3 2 3 1 ∷ [])
     (0x3fb999999999999a ∷ 0x4010000000000000 ∷ [])
     (job 2 1 2147483648 ∷ step ∷ look ∷ reset-messages ∷ step ∷ look ∷ step ∷ look ∷ steps 4 ∷ [])
     ≡ seen
@@ -197,7 +197,7 @@ case-192 = refl
 
 -- 100261
 pub case-193 :
-    play (proc 9 0 1 1 3 ∷ proc 4 0 1 2 2 ∷ proc 5 0 1 1 full ∷ coup 1 0 ∷ coup 3 1 ∷ bat 8 3 1 2 3 0x3fd2492492492492 ∷ []) (link 1 2 1 2 ∷ link 4 2 1 1 ∷ link 4 2 5 1 ∷ link 9 1 5 1 ∷ link 4 2 5 1 ∷ link 5 1 4 1 ∷ []) (into 3 1 8 4 ∷ inner 3 8 2 8 4 ∷ into 1 2 3 1 ∷ out 1 3 1 2 ∷ out 3 8 2 1 ∷ into 1 1 3 2 ∷ into 1 1 3 4 ∷ out 3 8 2 1 ∷ out 1 3 2 2 ∷ out 3 8 2 2 ∷ [])
+    play (proc 9 0 1 1 3 ∷ proc 4 0 1 2 2 ∷ proc 5 0 1 1 32 ∷ coup 1 0 ∷ coup 3 1 ∷ bat 8 3 1 2 3 0x3fd2492492492492 ∷ []) (link 1 2 1 2 ∷ link 4 2 1 1 ∷ link 4 2 5 1 ∷ link 9 1 5 1 ∷ link 4 2 5 1 ∷ link 5 1 4 1 ∷ []) (into 3 1 8 4 ∷ inner 3 8 2 8 4 ∷ into 1 2 3 1 ∷ out 1 3 1 2 ∷ out 3 8 2 1 ∷ into 1 1 3 2 ∷ into 1 1 3 4 ∷ out 3 8 2 1 ∷ out 1 3 2 2 ∷ out 3 8 2 2 ∷ [])
     (0x4004000000000000 ∷ 0x4010000000000000 ∷ 0x0000000000000001 ∷ 0x4028b0a3d70a3d71 ∷ 0x3fd2492492492492 ∷ 0x4004000000000000 ∷ [])
     (job 4 1 1 ∷ until 0x401c000000000000 8 ∷ look ∷ step ∷ look ∷ until 0x403cd851eb851eb8 1 ∷ [])
     ≡ seen
@@ -219,7 +219,7 @@ case-194 = refl
 
 -- 100264
 pub case-195 :
-    play (coup 1 0 ∷ proc 2 0 1 1 2 ∷ coup 8 1 ∷ proc 6 8 1 1 2 ∷ proc 3 8 1 2 3 ∷ proc 5 8 1 1 1 ∷ proc 9 8 1 1 8 ∷ []) (link 2 1 2 1 ∷ link 1 2 1 4 ∷ link 2 1 1 1 ∷ link 2 1 1 1 ∷ []) (inner 8 3 2 6 1 ∷ inner 8 5 1 5 1 ∷ out 8 3 2 1 ∷ into 1 1 8 2 ∷ inner 8 3 2 9 1 ∷ inner 8 3 2 5 1 ∷ into 8 2 6 1 ∷ into 1 1 8 1 ∷ inner 8 5 1 3 1 ∷ into 8 1 9 1 ∷ out 1 8 1 2 ∷ into 1 2 8 1 ∷ inner 8 5 1 6 1 ∷ [])
+    play (coup 1 0 ∷ proc 2 0 1 1 full ∷ coup 8 1 ∷ proc 6 8 1 1 2 ∷ proc 3 8 1 2 3 ∷ proc 5 8 1 1 1 ∷ proc 9 8 1 1 8 ∷ []) (link 2 1 2 1 ∷ link 1 2 1 4 ∷ link 2 1 1 1 ∷ link 2 1 1 1 ∷ []) (inner 8 3 2 6 1 ∷ inner 8 5 1 5 1 ∷ out 8 3 2 1 ∷ into 1 1 8 2 ∷ inner 8 3 2 9 1 ∷ inner 8 3 2 5 1 ∷ into 8 2 6 1 ∷ into 1 1 8 1 ∷ inner 8 5 1 3 1 ∷ into 8 1 9 1 ∷ out 1 8 1 2 ∷ into 1 2 8 1 ∷ inner 8 5 1 6 1 ∷ [])
     (0x3e112e0be826d695 ∷ 0x4010000000000000 ∷ 0x3fd2492492492492 ∷ 0x4028b0a3d70a3d71 ∷ 0x4010000000000000 ∷ 0x3fd3333333333333 ∷ 0x4004000000000000 ∷ [])
     (job 2 1 4294967295 ∷ job 1 1 0 ∷ job 1 2 2147483648 ∷ inject 0 0 1 1 0x4010000000000000 4294967295 ∷ job 2 1 4294967295 ∷ step ∷ look ∷ status 5 ∷ status 96 ∷ step ∷ look ∷ step ∷ look ∷ step ∷ look ∷ step ∷ look ∷ step ∷ look ∷ step ∷ [])
     ≡ seen
@@ -263,12 +263,12 @@ case-198 = refl
 
 -- 100273
 pub case-199 :
-    play (coup 5 0 ∷ proc 7 5 1 1 2 ∷ proc 9 5 1 1 2 ∷ proc 8 5 1 2 3 ∷ []) (link 7 1 5 1 ∷ link 5 2 5 1 ∷ link 5 1 99 3 ∷ link 5 2 5 1 ∷ []) (out 5 9 1 2 ∷ into 5 1 9 1 ∷ into 5 1 7 1 ∷ inner 5 8 2 7 1 ∷ into 5 1 7 1 ∷ inner 5 8 2 9 1 ∷ [])
+    play (coup 5 0 ∷ proc 7 5 1 1 full ∷ proc 9 5 1 1 2 ∷ proc 8 5 1 2 3 ∷ []) (link 7 1 5 1 ∷ link 5 2 5 1 ∷ link 5 1 99 3 ∷ link 5 2 5 1 ∷ []) (out 5 9 1 2 ∷ into 5 1 9 1 ∷ into 5 1 7 1 ∷ inner 5 8 2 7 1 ∷ into 5 1 7 1 ∷ inner 5 8 2 9 1 ∷ [])
     (0x401c000000000000 ∷ 0x4010000000000000 ∷ 0x4004000000000000 ∷ [])
     (inject 0 0 5 1 0x3ff0000000000000 3 ∷ job 5 1 3 ∷ inject 65535 3 5 1 0 2 ∷ job 5 1 2 ∷ steps 4 ∷ [])
     ≡ seen
     (ran 4 [] 0x401a000000000000 3 ∷ [])
-    (c0 ∷ pPassive 0 [] ∷ pActive 0x3fe0000000000000 (3 ∷ 3 ∷ []) ∷ p0 ∷ []) []
+    (c0 ∷ pPassive 0 (3 ∷ 3 ∷ 2 ∷ 2 ∷ 2 ∷ 2 ∷ []) ∷ pActive 0x3fe0000000000000 (3 ∷ 3 ∷ []) ∷ p0 ∷ []) []
 unfolding play
 case-199 = refl
 

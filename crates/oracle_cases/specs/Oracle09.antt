@@ -10,7 +10,7 @@ use Rattle.oracle_cases.specs.Common.{inf, full, proc, bat, least, m
 
 -- 100277
 pub case-201 :
-    play (coup 4 0 ∷ coup 6 4 ∷ proc 3 6 1 1 2 ∷ proc 9 6 1 1 1 ∷ proc 1 6 1 1 1 ∷ []) (link 9 1 4 2 ∷ link 4 2 99 4 ∷ link 4 2 4 1 ∷ []) (inner 6 1 1 3 1 ∷ inner 6 3 1 1 1 ∷ out 6 9 1 2 ∷ inner 4 6 2 6 1 ∷ inner 4 6 2 6 1 ∷ into 6 1 9 1 ∷ inner 4 6 2 6 1 ∷ into 4 1 6 1 ∷ inner 6 1 1 3 65000 ∷ [])
+    play (coup 4 0 ∷ coup 6 4 ∷ proc 3 6 1 1 full ∷ proc 9 6 1 1 1 ∷ proc 1 6 1 1 1 ∷ []) (link 9 1 4 2 ∷ link 4 2 99 4 ∷ link 4 2 4 1 ∷ []) (inner 6 1 1 3 1 ∷ inner 6 3 1 1 1 ∷ out 6 9 1 2 ∷ inner 4 6 2 6 1 ∷ inner 4 6 2 6 1 ∷ into 6 1 9 1 ∷ inner 4 6 2 6 1 ∷ into 4 1 6 1 ∷ inner 6 1 1 3 65000 ∷ [])
     (0x3e112e0be826d695 ∷ 0x4004000000000000 ∷ 0x3ff0000000000000 ∷ 0x3fb999999999999a ∷ 0x4004000000000000 ∷ [])
     (inject 5 3 4 1 0 1 ∷ until 0x3fb999999999999a 4 ∷ look ∷ steps 2 ∷ look ∷ reset ∷ step ∷ look ∷ step ∷ [])
     ≡ seen
@@ -76,7 +76,7 @@ case-206 = refl
 
 -- 100284
 pub case-207 :
-    play (proc 1 0 1 2 full ∷ bat 6 0 1 2 2 0x4028b0a3d70a3d71 ∷ coup 4 0 ∷ bat 3 0 1 2 3 0x3fb999999999999a ∷ most 5 0 1 3 4 2 ∷ least 7 0 4 3 1 1 ∷ bat 8 0 1 1 2 0x3fd2492492492492 ∷ []) (link 7 1 7 4 ∷ link 4 3 3 3 ∷ link 3 2 6 4 ∷ link 7 1 3 2 ∷ link 1 2 99 2 ∷ link 6 2 8 3 ∷ link 7 1 5 4 ∷ link 1 2 8 4 ∷ link 7 1 1 1 ∷ link 5 2 5 3 ∷ link 7 1 7 1 ∷ link 5 2 7 3 ∷ link 4 1 5 1 ∷ link 7 1 6 3 ∷ []) []
+    play (proc 1 0 1 2 32 ∷ bat 6 0 1 2 2 0x4028b0a3d70a3d71 ∷ coup 4 0 ∷ bat 3 0 1 2 3 0x3fb999999999999a ∷ most 5 0 1 3 4 2 ∷ least 7 0 4 3 1 1 ∷ bat 8 0 1 1 2 0x3fd2492492492492 ∷ []) (link 7 1 7 4 ∷ link 4 3 3 3 ∷ link 3 2 6 4 ∷ link 7 1 3 2 ∷ link 1 2 99 2 ∷ link 6 2 8 3 ∷ link 7 1 5 4 ∷ link 1 2 8 4 ∷ link 7 1 1 1 ∷ link 5 2 5 3 ∷ link 7 1 7 1 ∷ link 5 2 7 3 ∷ link 4 1 5 1 ∷ link 7 1 6 3 ∷ []) []
     (0x3fd3333333333333 ∷ 0x4010000000000000 ∷ 0x4010000000000000 ∷ 0x3fd5555555555555 ∷ 0x3fb999999999999a ∷ 0x3e112e0be826d695 ∷ [])
     (job 97 2 2 ∷ job 3 3 1 ∷ status 7 ∷ steps 0 ∷ look ∷ step ∷ look ∷ reset-messages ∷ until 0x3fb999999999999a 2 ∷ look ∷ step ∷ look ∷ step ∷ look ∷ put-in (coup 8 0 ∷ coup 4 8 ∷ proc 6 4 1 2 2 ∷ proc 3 4 1 1 2 ∷ bat 9 4 1 2 2 0x3fe6666666666666 ∷ proc 2 4 1 2 1 ∷ []) (link 4 1 8 1 ∷ link 8 3 99 1 ∷ link 8 2 8 1 ∷ link 8 4 8 1 ∷ []) (inner 4 2 2 3 1 ∷ inner 8 4 2 4 2 ∷ inner 4 9 2 98 4 ∷ into 4 2 2 1 ∷ out 4 3 1 2 ∷ inner 4 6 2 3 1 ∷ inner 8 4 2 4 3 ∷ inner 4 2 2 6 1 ∷ into 8 1 4 2 ∷ into 4 1 3 1 ∷ inner 4 9 2 9 3 ∷ inner 4 3 1 3 1 ∷ out 4 2 2 1 ∷ out 4 6 2 1 ∷ into 8 1 4 2 ∷ []) ∷ step ∷ look ∷ job 8 1 3 ∷ step ∷ look ∷ steps 3 ∷ look ∷ until 0x4034beb851eb851f 1 ∷ [])
     ≡ seen
@@ -120,7 +120,7 @@ case-210 = refl
 
 -- 100290
 pub case-211 :
-    play (coup 2 0 ∷ coup 7 2 ∷ bat 9 7 1 1 1 0x401c000000000000 ∷ proc 3 7 1 2 3 ∷ proc 8 7 1 1 2 ∷ []) (link 2 2 2 1 ∷ link 2 1 2 3 ∷ link 3 2 99 3 ∷ link 2 2 99 1 ∷ []) (into 7 1 8 65000 ∷ into 2 2 7 1 ∷ inner 2 7 2 7 1 ∷ into 2 1 7 1 ∷ out 2 7 2 2 ∷ inner 2 7 2 98 3 ∷ inner 2 7 2 98 4 ∷ into 7 1 8 1 ∷ inner 2 7 2 98 1 ∷ out 7 3 2 2 ∷ [])
+    play (coup 2 0 ∷ coup 7 2 ∷ bat 9 7 1 1 1 0x401c000000000000 ∷ proc 3 7 1 2 3 ∷ proc 8 7 1 1 full ∷ []) (link 2 2 2 1 ∷ link 2 1 2 3 ∷ link 3 2 99 3 ∷ link 2 2 99 1 ∷ []) (into 7 1 8 65000 ∷ into 2 2 7 1 ∷ inner 2 7 2 7 1 ∷ into 2 1 7 1 ∷ out 2 7 2 2 ∷ inner 2 7 2 98 3 ∷ inner 2 7 2 98 4 ∷ into 7 1 8 1 ∷ inner 2 7 2 98 1 ∷ out 7 3 2 2 ∷ [])
     []
     (inject 0 0 2 2 0x3fd5555555555555 7 ∷ job 2 1 2147483648 ∷ job 2 2 4294967295 ∷ steps 2 ∷ [])
     ≡ seen
@@ -131,7 +131,7 @@ case-211 = refl
 
 -- 100291
 pub case-212 :
-    play (bat 5 0 1 1 2 0x4004000000000000 ∷ proc 7 0 1 1 2 ∷ proc 8 0 1 1 8 ∷ most 2 0 2 4 1 1 ∷ most 3 0 3 4 1 1 ∷ proc 1 0 1 1 0 ∷ []) (link 7 1 8 1 ∷ link 5 1 2 2 ∷ link 7 1 2 4 ∷ link 8 1 7 1 ∷ link 5 1 1 1 ∷ link 7 1 3 4 ∷ link 1 1 3 4 ∷ link 7 1 2 1 ∷ []) []
+    play (bat 5 0 1 1 2 0x4004000000000000 ∷ proc 7 0 1 1 full ∷ proc 8 0 1 1 8 ∷ most 2 0 2 4 1 1 ∷ most 3 0 3 4 1 1 ∷ proc 1 0 1 1 0 ∷ []) (link 7 1 8 1 ∷ link 5 1 2 2 ∷ link 7 1 2 4 ∷ link 8 1 7 1 ∷ link 5 1 1 1 ∷ link 7 1 3 4 ∷ link 1 1 3 4 ∷ link 7 1 2 1 ∷ []) []
     (0x4004000000000000 ∷ 0x401c000000000000 ∷ [])
     (job 3 3 2 ∷ until 0 1 ∷ look ∷ job 8 1 3 ∷ step ∷ look ∷ steps 2 ∷ [])
     ≡ seen
@@ -153,7 +153,7 @@ case-213 = refl
 
 -- 100293
 pub case-214 :
-    play (coup 1 0 ∷ proc 3 1 1 2 full ∷ proc 6 1 1 1 2 ∷ proc 7 1 1 2 0 ∷ []) (link 1 2 1 1 ∷ link 1 2 1 2 ∷ []) (inner 1 6 1 98 1 ∷ into 1 2 6 1 ∷ inner 1 3 2 7 1 ∷ inner 1 3 2 6 1 ∷ into 1 1 6 1 ∷ out 1 3 2 2 ∷ [])
+    play (coup 1 0 ∷ proc 3 1 1 2 32 ∷ proc 6 1 1 1 2 ∷ proc 7 1 1 2 0 ∷ []) (link 1 2 1 1 ∷ link 1 2 1 2 ∷ []) (inner 1 6 1 98 1 ∷ into 1 2 6 1 ∷ inner 1 3 2 7 1 ∷ inner 1 3 2 6 1 ∷ into 1 1 6 1 ∷ out 1 3 2 2 ∷ [])
     (0x3fe6666666666666 ∷ 0x4010000000000000 ∷ [])
     (inject 0 0 1 1 0x3fe6666666666666 3 ∷ inject 0 0 1 1 0x3e112e0be826d695 1 ∷ job 1 3 3 ∷ step ∷ look ∷ step ∷ look ∷ steps 0 ∷ look ∷ job 1 4 3 ∷ step ∷ look ∷ step ∷ look ∷ step ∷ [])
     ≡ seen
@@ -164,18 +164,18 @@ case-214 = refl
 
 -- 100294
 pub case-215 :
-    play (coup 5 0 ∷ coup 9 5 ∷ proc 6 9 1 0 3 ∷ proc 2 9 1 1 3 ∷ proc 3 9 1 0 2 ∷ most 7 9 1 255 0 0 ∷ []) (link 5 0 99 0 ∷ link 5 0 5 1 ∷ []) (into 5 1 9 1 ∷ inner 9 6 0 7 255 ∷ inner 9 2 1 7 255 ∷ inner 5 9 0 9 1 ∷ inner 9 6 0 2 1 ∷ inner 9 2 1 6 1 ∷ into 5 1 9 1 ∷ out 9 6 0 0 ∷ into 9 1 3 1 ∷ into 9 1 2 1 ∷ inner 9 6 0 2 1 ∷ inner 9 2 1 3 1 ∷ out 5 9 0 0 ∷ inner 5 9 1 98 32768 ∷ [])
+    play (coup 5 0 ∷ coup 9 5 ∷ proc 6 9 1 0 3 ∷ proc 2 9 1 1 3 ∷ proc 3 9 1 0 full ∷ most 7 9 1 255 0 0 ∷ []) (link 5 0 99 0 ∷ link 5 0 5 1 ∷ []) (into 5 1 9 1 ∷ inner 9 6 0 7 255 ∷ inner 9 2 1 7 255 ∷ inner 5 9 0 9 1 ∷ inner 9 6 0 2 1 ∷ inner 9 2 1 6 1 ∷ into 5 1 9 1 ∷ out 9 6 0 0 ∷ into 9 1 3 1 ∷ into 9 1 2 1 ∷ inner 9 6 0 2 1 ∷ inner 9 2 1 3 1 ∷ out 5 9 0 0 ∷ inner 5 9 1 98 32768 ∷ [])
     (0x3ff0000000000000 ∷ 0 ∷ 0x3fd3333333333333 ∷ 0x3ff0000000000000 ∷ [])
     (job 5 1 2 ∷ step ∷ look ∷ status 6 ∷ step ∷ look ∷ step ∷ look ∷ until 0x4011333333333333 1 ∷ [])
     ≡ seen
-    (ran 1 [] 0 2 ∷ holds (c0 ∷ parks ((7, 255, 2) ∷ (6, 1, 2) ∷ (3, 1, 2) ∷ []) ∷ p0 ∷ pPassive 0 (2 ∷ []) ∷ pActive 0x3ff0000000000000 (2 ∷ 2 ∷ []) ∷ s0 ∷ []) [] ∷ refuses 4 ∷ ran 1 [] 0 4 ∷ holds (c0 ∷ c0 ∷ pActive 0x3fd3333333333333 (2 ∷ []) ∷ pActive 0x3ff0000000000000 (2 ∷ []) ∷ pActive 0x3ff0000000000000 (2 ∷ 2 ∷ []) ∷ sPassive inf ((2, none, some 0) ∷ []) ∷ []) [] ∷ ran 1 ((5, 0, 99, 0, 0x3fd3333333333333, 2) ∷ (5, 0, 5, 1, 0x3fd3333333333333, 2) ∷ []) 0x3fd3333333333333 4 ∷ holds (parks ((9, 1, 2) ∷ []) ∷ parks ((7, 255, 2) ∷ (2, 1, 2) ∷ (2, 1, 2) ∷ []) ∷ pPassive 0 [] ∷ pActive 0x3fe6666666666666 (2 ∷ []) ∷ pActive 0x3fe6666666666666 (2 ∷ 2 ∷ []) ∷ sPassive inf ((2, none, some 0) ∷ []) ∷ []) ((5, 0, 99, 0, 0x3fd3333333333333, 2) ∷ (5, 0, 5, 1, 0x3fd3333333333333, 2) ∷ []) ∷ spent 1 [] 0x3fd3333333333333 4 ∷ [])
-    (c0 ∷ c0 ∷ p0 ∷ pActive 0x3fe6666666666666 (2 ∷ 2 ∷ 2 ∷ []) ∷ pActive 0x3fe6666666666666 (2 ∷ 2 ∷ []) ∷ sPassive inf ((2, none, some 0x3fd3333333333333) ∷ []) ∷ []) []
+    (ran 1 [] 0 2 ∷ holds (c0 ∷ parks ((7, 255, 2) ∷ (6, 1, 2) ∷ (3, 1, 2) ∷ []) ∷ p0 ∷ pPassive 0 (2 ∷ []) ∷ pActive 0x3ff0000000000000 (2 ∷ 2 ∷ []) ∷ s0 ∷ []) [] ∷ refuses 4 ∷ ran 1 [] 0 4 ∷ holds (c0 ∷ c0 ∷ pActive 0x3fd3333333333333 (2 ∷ []) ∷ pActive 0x3ff0000000000000 (2 ∷ []) ∷ pActive 0x3ff0000000000000 (2 ∷ 2 ∷ 2 ∷ []) ∷ sPassive inf ((2, none, some 0) ∷ []) ∷ []) [] ∷ ran 1 ((5, 0, 99, 0, 0x3fd3333333333333, 2) ∷ (5, 0, 5, 1, 0x3fd3333333333333, 2) ∷ []) 0x3fd3333333333333 4 ∷ holds (parks ((9, 1, 2) ∷ []) ∷ parks ((7, 255, 2) ∷ (2, 1, 2) ∷ (2, 1, 2) ∷ []) ∷ pPassive 0 [] ∷ pActive 0x3fe6666666666666 (2 ∷ []) ∷ pActive 0x3fe6666666666666 (2 ∷ 2 ∷ 2 ∷ []) ∷ sPassive inf ((2, none, some 0) ∷ []) ∷ []) ((5, 0, 99, 0, 0x3fd3333333333333, 2) ∷ (5, 0, 5, 1, 0x3fd3333333333333, 2) ∷ []) ∷ spent 1 [] 0x3fd3333333333333 4 ∷ [])
+    (c0 ∷ c0 ∷ p0 ∷ pActive 0x3fe6666666666666 (2 ∷ 2 ∷ 2 ∷ []) ∷ pActive 0x3fe6666666666666 (2 ∷ 2 ∷ 2 ∷ 2 ∷ 2 ∷ 2 ∷ []) ∷ sPassive inf ((2, none, some 0x3fd3333333333333) ∷ []) ∷ []) []
 unfolding play
 case-215 = refl
 
 -- 100297
 pub case-216 :
-    play (proc 9 0 32768 32768 full ∷ bat 2 0 32768 32768 2 0x4004000000000000 ∷ least 1 0 0 32768 1000 32768 ∷ bat 8 0 32768 32768 2 0x3fe6666666666666 ∷ []) (link 8 32768 8 32768 ∷ link 9 32768 1 32768 ∷ link 2 32768 8 32768 ∷ link 1 32768 9 32768 ∷ link 9 32768 8 32768 ∷ link 9 32768 2 32768 ∷ link 9 32768 1 1000 ∷ []) []
+    play (proc 9 0 32768 32768 32 ∷ bat 2 0 32768 32768 2 0x4004000000000000 ∷ least 1 0 0 32768 1000 32768 ∷ bat 8 0 32768 32768 2 0x3fe6666666666666 ∷ []) (link 8 32768 8 32768 ∷ link 9 32768 1 32768 ∷ link 2 32768 8 32768 ∷ link 1 32768 9 32768 ∷ link 9 32768 8 32768 ∷ link 9 32768 2 32768 ∷ link 9 32768 1 1000 ∷ []) []
     (0x4004000000000000 ∷ [])
     (steps 0 ∷ [])
     ≡ seen
@@ -186,7 +186,7 @@ case-216 = refl
 
 -- 100299
 pub case-217 :
-    play (coup 3 0 ∷ coup 6 3 ∷ proc 5 6 1 1 full ∷ proc 4 0 1 2 1 ∷ proc 9 6 1 2 2 ∷ proc 8 3 1 1 8 ∷ bat 7 6 1 2 1 0x3fb999999999999a ∷ []) (link 4 2 4 1 ∷ link 3 2 99 4 ∷ []) (inner 3 6 1 8 1 ∷ inner 6 9 2 5 1 ∷ out 3 6 1 2 ∷ inner 3 8 1 6 2 ∷ into 6 2 7 3 ∷ out 3 8 1 1 ∷ inner 6 5 1 5 1 ∷ into 3 2 6 2 ∷ inner 3 8 1 6 1 ∷ into 6 2 9 1 ∷ inner 3 6 1 8 1 ∷ out 3 6 1 2 ∷ into 3 1 6 2 ∷ out 6 7 2 1 ∷ inner 6 5 1 5 1 ∷ [])
+    play (coup 3 0 ∷ coup 6 3 ∷ proc 5 6 1 1 32 ∷ proc 4 0 1 2 1 ∷ proc 9 6 1 2 2 ∷ proc 8 3 1 1 8 ∷ bat 7 6 1 2 1 0x3fb999999999999a ∷ []) (link 4 2 4 1 ∷ link 3 2 99 4 ∷ []) (inner 3 6 1 8 1 ∷ inner 6 9 2 5 1 ∷ out 3 6 1 2 ∷ inner 3 8 1 6 2 ∷ into 6 2 7 3 ∷ out 3 8 1 1 ∷ inner 6 5 1 5 1 ∷ into 3 2 6 2 ∷ inner 3 8 1 6 1 ∷ into 6 2 9 1 ∷ inner 3 6 1 8 1 ∷ out 3 6 1 2 ∷ into 3 1 6 2 ∷ out 6 7 2 1 ∷ inner 6 5 1 5 1 ∷ [])
     []
     (inject 0 0 4 1 0x4010000000000000 1 ∷ job 3 2 2 ∷ job 3 1 2 ∷ job 3 1 2 ∷ job 3 1 2 ∷ job 4 1 3 ∷ status 9 ∷ until 0 2 ∷ [])
     ≡ seen
@@ -241,7 +241,7 @@ case-221 = refl
 
 -- 100304
 pub case-222 :
-    play (most 257 0 1000 256 32768 1000 ∷ proc 256 0 1000 32768 full ∷ []) (link 256 32768 257 32768 ∷ link 256 32768 257 256 ∷ link 256 32768 257 1000 ∷ link 256 32768 257 32768 ∷ link 257 1000 256 1000 ∷ link 257 1000 256 1000 ∷ []) []
+    play (most 257 0 1000 256 32768 1000 ∷ proc 256 0 1000 32768 32 ∷ []) (link 256 32768 257 32768 ∷ link 256 32768 257 256 ∷ link 256 32768 257 1000 ∷ link 256 32768 257 32768 ∷ link 257 1000 256 1000 ∷ link 257 1000 256 1000 ∷ []) []
     []
     (steps 0 ∷ [])
     ≡ seen

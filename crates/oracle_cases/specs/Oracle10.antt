@@ -21,7 +21,7 @@ case-226 = refl
 
 -- 100309
 pub case-227 :
-    play (coup 1 0 ∷ proc 8 1 1 2 full ∷ proc 4 1 1 1 3 ∷ proc 5 1 1 1 3 ∷ []) (link 1 1 1 2 ∷ link 4 1 1 2 ∷ []) (inner 1 8 2 5 17 ∷ into 1 1 4 1 ∷ inner 1 4 1 4 1 ∷ into 1 2 4 1 ∷ into 1 2 5 1 ∷ inner 1 8 2 4 1 ∷ out 1 5 1 1 ∷ [])
+    play (coup 1 0 ∷ proc 8 1 1 2 32 ∷ proc 4 1 1 1 3 ∷ proc 5 1 1 1 3 ∷ []) (link 1 1 1 2 ∷ link 4 1 1 2 ∷ []) (inner 1 8 2 5 17 ∷ into 1 1 4 1 ∷ inner 1 4 1 4 1 ∷ into 1 2 4 1 ∷ into 1 2 5 1 ∷ inner 1 8 2 4 1 ∷ out 1 5 1 1 ∷ [])
     (0x3fb999999999999a ∷ 0x401c000000000000 ∷ 0x4004000000000000 ∷ 0x4010000000000000 ∷ 0x401c000000000000 ∷ 0x3ff0000000000000 ∷ [])
     (job 1 1 2 ∷ job 1 2 3 ∷ until 0x4004000000000000 504 ∷ look ∷ reset ∷ status 5 ∷ job 1 1 3 ∷ job 1 2 2 ∷ until 0 2 ∷ look ∷ until 0x4010000000000000 1 ∷ look ∷ step ∷ [])
     ≡ seen
@@ -34,7 +34,7 @@ case-227 = refl
 pub case-228 :
     play (bat 9 0 1 1 1 0x4010000000000000 ∷ coup 7 0 ∷ []) (link 9 1 7 1 ∷ link 9 1 7 1 ∷ link 7 1 9 4 ∷ []) []
     (0x4028b0a3d70a3d71 ∷ 0x3ff0000000000000 ∷ 0x3fb999999999999a ∷ 0x401c000000000000 ∷ 0 ∷ 0x4010000000000000 ∷ 0x401c000000000000 ∷ [])
-    (job 9 2 2 ∷ steps 0 ∷ look ∷ put-in (coup 9 0 ∷ coup 3 9 ∷ proc 1 3 1 1 2 ∷ proc 7 3 1 1 1 ∷ proc 5 3 1 2 1 ∷ []) (link 9 1 9 2 ∷ link 9 1 9 1 ∷ link 9 1 99 2 ∷ []) (into 3 1 1 1 ∷ inner 9 3 2 3 2 ∷ inner 3 1 1 7 1 ∷ inner 3 7 1 7 1 ∷ into 3 2 5 1 ∷ inner 9 3 2 3 1 ∷ into 3 2 7 1 ∷ out 9 3 2 1 ∷ into 9 2 3 1 ∷ into 9 1 3 2 ∷ inner 3 1 1 5 1 ∷ into 9 1 3 2 ∷ out 3 5 2 2 ∷ []) ∷ until 0x4024000000000000 2 ∷ look ∷ steps 1 ∷ look ∷ steps 2 ∷ [])
+    (job 9 2 2 ∷ steps 0 ∷ look ∷ put-in (coup 9 0 ∷ coup 3 9 ∷ proc 1 3 1 1 full ∷ proc 7 3 1 1 1 ∷ proc 5 3 1 2 1 ∷ []) (link 9 1 9 2 ∷ link 9 1 9 1 ∷ link 9 1 99 2 ∷ []) (into 3 1 1 1 ∷ inner 9 3 2 3 2 ∷ inner 3 1 1 7 1 ∷ inner 3 7 1 7 1 ∷ into 3 2 5 1 ∷ inner 9 3 2 3 1 ∷ into 3 2 7 1 ∷ out 9 3 2 1 ∷ into 9 2 3 1 ∷ into 9 1 3 2 ∷ inner 3 1 1 5 1 ∷ into 9 1 3 2 ∷ out 3 5 2 2 ∷ []) ∷ until 0x4024000000000000 2 ∷ look ∷ steps 1 ∷ look ∷ steps 2 ∷ [])
     ≡ seen
     (ran 0 [] 0 0 ∷ holds (b0 ∷ c0 ∷ []) ((0, 0, 9, 2, 0, 2) ∷ []) ∷ reached 2 [] 0x4028b0a3d70a3d71 1 ∷ holds (c0 ∷ parks ((7, 1, 2) ∷ (5, 1, 2) ∷ []) ∷ pPassive 0 [] ∷ p0 ∷ p0 ∷ []) [] ∷ ran 1 [] 0x4028b0a3d70a3d71 3 ∷ holds (c0 ∷ c0 ∷ p0 ∷ pActive 0x3ff0000000000000 (2 ∷ []) ∷ pActive 0x3fb999999999999a (2 ∷ []) ∷ []) [] ∷ ran 2 ((9, 1, 9, 2, 0x4028e3d70a3d70a4, 2) ∷ (9, 1, 9, 1, 0x4028e3d70a3d70a4, 2) ∷ (9, 1, 99, 2, 0x4028e3d70a3d70a4, 2) ∷ (9, 1, 9, 2, 0x4028e3d70a3d70a4, 2) ∷ (9, 1, 9, 1, 0x4028e3d70a3d70a4, 2) ∷ (9, 1, 99, 2, 0x4028e3d70a3d70a4, 2) ∷ []) 0x4028e3d70a3d70a4 5 ∷ [])
     (parks ((3, 2, 2) ∷ (3, 1, 2) ∷ []) ∷ c0 ∷ pActive 0x401c000000000000 (2 ∷ 2 ∷ []) ∷ pActive 0x3feccccccccccccd (2 ∷ []) ∷ pPassive 0 [] ∷ []) ((9, 1, 9, 2, 0x4028e3d70a3d70a4, 2) ∷ (9, 1, 9, 1, 0x4028e3d70a3d70a4, 2) ∷ (9, 1, 99, 2, 0x4028e3d70a3d70a4, 2) ∷ [])
@@ -43,9 +43,9 @@ case-228 = refl
 
 -- 100313
 pub case-229 :
-    play (coup 7 0 ∷ coup 3 7 ∷ proc 5 3 1 1 2 ∷ proc 1 3 1 1 full ∷ []) (link 7 1 7 2 ∷ link 7 1 99 3 ∷ link 1 1 7 2 ∷ []) (into 7 2 3 4 ∷ out 7 3 2 1 ∷ into 7 2 3 2 ∷ out 7 3 2 1 ∷ inner 3 1 1 1 9 ∷ into 3 2 5 1 ∷ [])
+    play (coup 7 0 ∷ coup 3 7 ∷ proc 5 3 1 1 full ∷ proc 1 3 1 1 32 ∷ []) (link 7 1 7 2 ∷ link 7 1 99 3 ∷ link 1 1 7 2 ∷ []) (into 7 2 3 4 ∷ out 7 3 2 1 ∷ into 7 2 3 2 ∷ out 7 3 2 1 ∷ inner 3 1 1 1 9 ∷ into 3 2 5 1 ∷ [])
     (0x3ff0000000000000 ∷ [])
-    (job 7 2 2 ∷ steps 0 ∷ look ∷ reset-messages ∷ job 7 2 2 ∷ put-in (proc 3 0 1 2 8 ∷ bat 6 0 1 1 4611686018427387904 0x3fb999999999999a ∷ most 9 0 2 1 3 2 ∷ bat 8 0 1 1 2 0x3fd2492492492492 ∷ proc 1 0 1 2 2 ∷ proc 2 0 1 1 1 ∷ proc 5 0 1 2 8 ∷ []) (link 6 1 9 3 ∷ link 2 1 6 1 ∷ link 1 2 2 1 ∷ link 3 2 8 1 ∷ link 8 1 9 2 ∷ link 8 1 5 1 ∷ link 6 1 9 2 ∷ link 5 2 9 65000 ∷ link 5 2 8 4 ∷ link 5 2 1 1 ∷ link 3 2 2 1 ∷ link 8 1 9 3 ∷ []) [] ∷ put-in (proc 9 0 1 2 1 ∷ proc 3 0 1 2 8 ∷ []) (link 3 2 9 1 ∷ link 3 2 99 2 ∷ link 3 2 99 4 ∷ link 9 2 3 17 ∷ link 3 2 9 1 ∷ []) [] ∷ step ∷ look ∷ job 9 1 1 ∷ job 9 1 3 ∷ until 0 501 ∷ look ∷ step ∷ look ∷ steps 3 ∷ [])
+    (job 7 2 2 ∷ steps 0 ∷ look ∷ reset-messages ∷ job 7 2 2 ∷ put-in (proc 3 0 1 2 8 ∷ bat 6 0 1 1 4611686018427387904 0x3fb999999999999a ∷ most 9 0 2 1 3 2 ∷ bat 8 0 1 1 2 0x3fd2492492492492 ∷ proc 1 0 1 2 full ∷ proc 2 0 1 1 1 ∷ proc 5 0 1 2 8 ∷ []) (link 6 1 9 3 ∷ link 2 1 6 1 ∷ link 1 2 2 1 ∷ link 3 2 8 1 ∷ link 8 1 9 2 ∷ link 8 1 5 1 ∷ link 6 1 9 2 ∷ link 5 2 9 65000 ∷ link 5 2 8 4 ∷ link 5 2 1 1 ∷ link 3 2 2 1 ∷ link 8 1 9 3 ∷ []) [] ∷ put-in (proc 9 0 1 2 1 ∷ proc 3 0 1 2 8 ∷ []) (link 3 2 9 1 ∷ link 3 2 99 2 ∷ link 3 2 99 4 ∷ link 9 2 3 17 ∷ link 3 2 9 1 ∷ []) [] ∷ step ∷ look ∷ job 9 1 1 ∷ job 9 1 3 ∷ until 0 501 ∷ look ∷ step ∷ look ∷ steps 3 ∷ [])
     ≡ seen
     (ran 0 [] 0 0 ∷ holds (c0 ∷ c0 ∷ p0 ∷ p0 ∷ []) ((0, 0, 7, 2, 0, 2) ∷ []) ∷ ran 1 [] 0 0 ∷ holds (p0 ∷ p0 ∷ []) [] ∷ reached 1 [] 0 1 ∷ holds (pActive 0x3ff0000000000000 (1 ∷ []) ∷ p0 ∷ []) [] ∷ ran 1 ((9, 2, 3, 17, 0x3ff0000000000000, 1) ∷ []) 0x3ff0000000000000 1 ∷ holds (pPassive 0 [] ∷ p0 ∷ []) ((9, 2, 3, 17, 0x3ff0000000000000, 1) ∷ []) ∷ stopped 5 0 [] 0x3ff0000000000000 1 ∷ [])
     (pPassive 0 [] ∷ p0 ∷ []) ((9, 2, 3, 17, 0x3ff0000000000000, 1) ∷ [])
@@ -175,7 +175,7 @@ case-240 = refl
 
 -- 100328
 pub case-241 :
-    play (bat 2 0 1 1 3 0x3fb999999999999a ∷ proc 1 0 1 2 full ∷ []) (link 2 1 1 17 ∷ link 1 2 2 1 ∷ link 1 2 2 4 ∷ []) []
+    play (bat 2 0 1 1 3 0x3fb999999999999a ∷ proc 1 0 1 2 32 ∷ []) (link 2 1 1 17 ∷ link 1 2 2 1 ∷ link 1 2 2 4 ∷ []) []
     (0x4010000000000000 ∷ [])
     (job 1 1 1 ∷ job 2 4 1 ∷ step ∷ look ∷ inject 65535 3 2 3 0 3 ∷ job 2 4 3 ∷ job 1 1 3 ∷ step ∷ look ∷ status 2 ∷ step ∷ [])
     ≡ seen
@@ -197,7 +197,7 @@ case-242 = refl
 
 -- 100331
 pub case-243 :
-    play (coup 1 0 ∷ coup 9 1 ∷ coup 6 9 ∷ coup 5 6 ∷ proc 2 5 1 1 1 ∷ proc 4 0 1 2 full ∷ []) (link 4 2 1 2 ∷ link 5 2 1 3 ∷ link 1 2 4 1 ∷ link 1 1 99 3 ∷ link 1 1 1 2 ∷ []) (into 6 2 5 2 ∷ inner 6 5 2 5 2 ∷ inner 5 2 1 2 1 ∷ inner 6 5 2 5 2 ∷ into 5 1 2 1 ∷ into 1 2 9 1 ∷ out 6 5 2 1 ∷ out 6 5 2 1 ∷ out 9 6 1 1 ∷ out 1 9 1 2 ∷ into 6 1 5 2 ∷ inner 9 6 2 6 1 ∷ into 5 2 2 1 ∷ inner 6 5 1 5 2 ∷ into 6 2 5 2 ∷ inner 5 2 1 2 1 ∷ out 5 2 1 2 ∷ inner 6 5 2 98 2 ∷ into 9 1 6 1 ∷ into 1 1 9 1 ∷ out 6 5 2 2 ∷ out 1 9 1 1 ∷ [])
+    play (coup 1 0 ∷ coup 9 1 ∷ coup 6 9 ∷ coup 5 6 ∷ proc 2 5 1 1 1 ∷ proc 4 0 1 2 32 ∷ []) (link 4 2 1 2 ∷ link 5 2 1 3 ∷ link 1 2 4 1 ∷ link 1 1 99 3 ∷ link 1 1 1 2 ∷ []) (into 6 2 5 2 ∷ inner 6 5 2 5 2 ∷ inner 5 2 1 2 1 ∷ inner 6 5 2 5 2 ∷ into 5 1 2 1 ∷ into 1 2 9 1 ∷ out 6 5 2 1 ∷ out 6 5 2 1 ∷ out 9 6 1 1 ∷ out 1 9 1 2 ∷ into 6 1 5 2 ∷ inner 9 6 2 6 1 ∷ into 5 2 2 1 ∷ inner 6 5 1 5 2 ∷ into 6 2 5 2 ∷ inner 5 2 1 2 1 ∷ out 5 2 1 2 ∷ inner 6 5 2 98 2 ∷ into 9 1 6 1 ∷ into 1 1 9 1 ∷ out 6 5 2 2 ∷ out 1 9 1 1 ∷ [])
     (0x3fd5555555555555 ∷ 0x3ff0000000000000 ∷ [])
     (inject 5 3 1 2 0 2 ∷ job 4 1 3 ∷ inject 0 0 4 1 0x401c000000000000 2 ∷ reset-global-time ∷ reset-global-time ∷ reset-global-time ∷ status 1 ∷ until 0x3fb999999999999a 2 ∷ look ∷ steps 1 ∷ [])
     ≡ seen
@@ -252,7 +252,7 @@ case-247 = refl
 
 -- 100339
 pub case-248 :
-    play (coup 5 0 ∷ proc 2 0 1 2 1 ∷ proc 8 0 1 2 2 ∷ coup 1 0 ∷ proc 9 1 1 2 3 ∷ bat 4 1 1 2 1 0x3fd2492492492492 ∷ bat 7 1 1 2 2 0x3fe6666666666666 ∷ []) (link 4 2 8 1 ∷ link 2 2 8 1 ∷ link 2 2 1 1 ∷ link 5 2 2 1 ∷ link 1 1 8 1 ∷ []) (into 1 1 7 1 ∷ out 1 9 2 1 ∷ into 1 1 4 2 ∷ inner 1 4 2 9 1 ∷ [])
+    play (coup 5 0 ∷ proc 2 0 1 2 1 ∷ proc 8 0 1 2 full ∷ coup 1 0 ∷ proc 9 1 1 2 3 ∷ bat 4 1 1 2 1 0x3fd2492492492492 ∷ bat 7 1 1 2 2 0x3fe6666666666666 ∷ []) (link 4 2 8 1 ∷ link 2 2 8 1 ∷ link 2 2 1 1 ∷ link 5 2 2 1 ∷ link 1 1 8 1 ∷ []) (into 1 1 7 1 ∷ out 1 9 2 1 ∷ into 1 1 4 2 ∷ inner 1 4 2 9 1 ∷ [])
     (0x4010000000000000 ∷ [])
     (job 8 1 2 ∷ steps 0 ∷ look ∷ step ∷ look ∷ step ∷ look ∷ until 0x4010000000000000 1 ∷ look ∷ job 1 2 1 ∷ job 5 3 3 ∷ status 7 ∷ step ∷ look ∷ job 5 3 2 ∷ steps 1 ∷ look ∷ job 8 1 3 ∷ job 8 1 2 ∷ steps 4 ∷ [])
     ≡ seen
@@ -263,7 +263,7 @@ case-248 = refl
 
 -- 100341
 pub case-249 :
-    play (most 6 0 4 1 3 1 ∷ bat 8 0 1 2 3 0x3fd3333333333333 ∷ proc 3 0 1 2 2 ∷ proc 4 0 1 2 2 ∷ bat 2 0 1 2 3 0x401c000000000000 ∷ proc 5 0 1 1 full ∷ bat 7 0 1 2 2 0x3fb999999999999a ∷ []) (link 5 1 6 1 ∷ link 2 2 6 3 ∷ link 3 2 4 1 ∷ link 4 2 6 1 ∷ link 6 1 7 3 ∷ link 8 2 2 1 ∷ link 4 2 8 1 ∷ link 2 2 99 4 ∷ link 5 1 7 2 ∷ link 3 2 7 3 ∷ link 8 2 6 4 ∷ []) []
+    play (most 6 0 4 1 3 1 ∷ bat 8 0 1 2 3 0x3fd3333333333333 ∷ proc 3 0 1 2 2 ∷ proc 4 0 1 2 2 ∷ bat 2 0 1 2 3 0x401c000000000000 ∷ proc 5 0 1 1 32 ∷ bat 7 0 1 2 2 0x3fb999999999999a ∷ []) (link 5 1 6 1 ∷ link 2 2 6 3 ∷ link 3 2 4 1 ∷ link 4 2 6 1 ∷ link 6 1 7 3 ∷ link 8 2 2 1 ∷ link 4 2 8 1 ∷ link 2 2 99 4 ∷ link 5 1 7 2 ∷ link 3 2 7 3 ∷ link 8 2 6 4 ∷ []) []
     (0x4010000000000000 ∷ 0x3ff0000000000000 ∷ [])
     (job 4 1 7 ∷ job 8 4 2147483648 ∷ job 2 3 0 ∷ step ∷ look ∷ step ∷ look ∷ steps 4 ∷ [])
     ≡ seen
@@ -274,7 +274,7 @@ case-249 = refl
 
 -- 100342
 pub case-250 :
-    play (coup 4 0 ∷ coup 2 4 ∷ coup 7 2 ∷ bat 9 0 1 2 4 0x3fb999999999999a ∷ proc 1 7 1 1 full ∷ least 6 4 2 3 4 1 ∷ []) (link 4 1 99 1 ∷ link 9 2 9 4 ∷ link 4 1 99 4 ∷ link 4 1 4 2 ∷ []) (inner 2 7 1 7 1 ∷ out 2 7 4 2 ∷ into 4 2 6 3 ∷ into 7 1 1 1 ∷ into 7 1 1 1 ∷ into 7 1 1 1 ∷ inner 7 1 1 1 1 ∷ inner 4 6 1 6 3 ∷ inner 7 1 1 1 1 ∷ out 4 6 1 1 ∷ inner 7 1 1 1 1 ∷ out 2 7 3 2 ∷ into 2 1 7 1 ∷ into 4 1 6 2 ∷ into 4 1 2 3 ∷ [])
+    play (coup 4 0 ∷ coup 2 4 ∷ coup 7 2 ∷ bat 9 0 1 2 4 0x3fb999999999999a ∷ proc 1 7 1 1 32 ∷ least 6 4 2 3 4 1 ∷ []) (link 4 1 99 1 ∷ link 9 2 9 4 ∷ link 4 1 99 4 ∷ link 4 1 4 2 ∷ []) (inner 2 7 1 7 1 ∷ out 2 7 4 2 ∷ into 4 2 6 3 ∷ into 7 1 1 1 ∷ into 7 1 1 1 ∷ into 7 1 1 1 ∷ inner 7 1 1 1 1 ∷ inner 4 6 1 6 3 ∷ inner 7 1 1 1 1 ∷ out 4 6 1 1 ∷ inner 7 1 1 1 1 ∷ out 2 7 3 2 ∷ into 2 1 7 1 ∷ into 4 1 6 2 ∷ into 4 1 2 3 ∷ [])
     (0x3fb999999999999a ∷ [])
     (job 4 2 2 ∷ job 4 2 3 ∷ job 4 1 3 ∷ step ∷ look ∷ job 4 2 1 ∷ until 0 2 ∷ look ∷ job 4 1 2 ∷ inject 0 0 9 3 0x3e112e0be826d695 2 ∷ steps 1 ∷ look ∷ step ∷ look ∷ until 0x3fc999999999999a 502 ∷ look ∷ inject 0 0 9 3 0x3fb999999999999a 1 ∷ job 9 1 2 ∷ until 0x3ff3333333333333 5 ∷ [])
     ≡ seen

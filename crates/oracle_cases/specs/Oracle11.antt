@@ -54,7 +54,7 @@ case-254 = refl
 
 -- 100349
 pub case-255 :
-    play (coup 2 0 ∷ coup 1 2 ∷ proc 9 1 1 1 2 ∷ proc 3 1 1 1 3 ∷ proc 4 1 1 1 2 ∷ []) (link 2 2 2 1 ∷ link 2 4 99 2 ∷ link 2 2 2 1 ∷ link 3 1 2 1 ∷ []) (into 1 2 3 1 ∷ inner 2 1 1 98 1 ∷ into 2 1 1 2 ∷ inner 1 3 1 4 1 ∷ inner 2 1 1 1 1 ∷ inner 1 9 1 4 1 ∷ into 1 1 9 1 ∷ inner 2 1 1 98 4 ∷ into 2 1 1 1 ∷ inner 1 3 1 9 1 ∷ inner 1 3 1 4 1 ∷ out 1 3 1 1 ∷ inner 1 9 1 4 1 ∷ inner 2 1 1 1 2 ∷ [])
+    play (coup 2 0 ∷ coup 1 2 ∷ proc 9 1 1 1 2 ∷ proc 3 1 1 1 3 ∷ proc 4 1 1 1 full ∷ []) (link 2 2 2 1 ∷ link 2 4 99 2 ∷ link 2 2 2 1 ∷ link 3 1 2 1 ∷ []) (into 1 2 3 1 ∷ inner 2 1 1 98 1 ∷ into 2 1 1 2 ∷ inner 1 3 1 4 1 ∷ inner 2 1 1 1 1 ∷ inner 1 9 1 4 1 ∷ into 1 1 9 1 ∷ inner 2 1 1 98 4 ∷ into 2 1 1 1 ∷ inner 1 3 1 9 1 ∷ inner 1 3 1 4 1 ∷ out 1 3 1 1 ∷ inner 1 9 1 4 1 ∷ inner 2 1 1 1 2 ∷ [])
     (0 ∷ 0x3ff0000000000000 ∷ 0x3fe6666666666666 ∷ 0x3fb999999999999a ∷ 0x401c000000000000 ∷ [])
     (job 2 1 0 ∷ job 2 1 7 ∷ job 2 1 2147483648 ∷ job 2 1 7 ∷ job 2 1 7 ∷ step ∷ look ∷ step ∷ look ∷ step ∷ [])
     ≡ seen
@@ -65,7 +65,7 @@ case-255 = refl
 
 -- 100350
 pub case-256 :
-    play (bat 32768 0 1 1 3 0 ∷ most 2 0 4 1 2 2 ∷ proc 65534 0 1 2 2 ∷ coup 65535 0 ∷ proc 4096 0 1 2 3 ∷ proc 1 0 1 2 2 ∷ proc 255 0 1 2 8 ∷ []) (link 32768 1 99 3 ∷ link 4096 2 255 1 ∷ link 65535 1 4096 1 ∷ link 255 2 4096 1 ∷ link 65534 2 1 1 ∷ link 2 2 65534 1 ∷ link 4096 2 65535 1 ∷ link 4096 2 65534 1 ∷ []) []
+    play (bat 32768 0 1 1 3 0 ∷ most 2 0 4 1 2 2 ∷ proc 65534 0 1 2 full ∷ coup 65535 0 ∷ proc 4096 0 1 2 3 ∷ proc 1 0 1 2 full ∷ proc 255 0 1 2 8 ∷ []) (link 32768 1 99 3 ∷ link 4096 2 255 1 ∷ link 65535 1 4096 1 ∷ link 255 2 4096 1 ∷ link 65534 2 1 1 ∷ link 2 2 65534 1 ∷ link 4096 2 65535 1 ∷ link 4096 2 65534 1 ∷ []) []
     (0x3e112e0be826d695 ∷ 0x3fb999999999999a ∷ 0x4010000000000000 ∷ 0x3fb999999999999a ∷ 0x430c6bf526340004 ∷ [])
     (job 1 1 7 ∷ job 4096 1 4294967295 ∷ job 2 2 0 ∷ job 32768 4 0 ∷ until 0x4024000000000000 8 ∷ [])
     ≡ seen
@@ -76,7 +76,7 @@ case-256 = refl
 
 -- 100352
 pub case-257 :
-    play (bat 6 0 32768 1 1 0x3fb999999999999a ∷ proc 2 0 32768 32768 2 ∷ []) (link 6 1 2 17 ∷ link 2 32768 99 1 ∷ link 2 32768 6 1 ∷ link 6 1 6 1000 ∷ []) []
+    play (bat 6 0 32768 1 1 0x3fb999999999999a ∷ proc 2 0 32768 32768 full ∷ []) (link 6 1 2 17 ∷ link 2 32768 99 1 ∷ link 2 32768 6 1 ∷ link 6 1 6 1000 ∷ []) []
     (0 ∷ 0x4010000000000000 ∷ [])
     (job 2 32768 1 ∷ job 6 1000 2 ∷ until 0x4004000000000000 2 ∷ [])
     ≡ seen
@@ -131,7 +131,7 @@ case-261 = refl
 
 -- 100358
 pub case-262 :
-    play (most 3 0 3 1 2 1 ∷ least 2 0 3 4 2 2 ∷ bat 7 0 1 1 2 0x0000000000000001 ∷ least 9 0 2 1 3 1 ∷ proc 5 0 1 1 2 ∷ bat 8 0 1 2 2 0x3fe6666666666666 ∷ []) (link 3 1 2 2 ∷ link 3 1 3 1 ∷ link 3 1 3 3 ∷ link 8 2 5 1 ∷ link 2 2 5 1 ∷ link 8 2 99 3 ∷ link 9 1 9 2 ∷ link 2 2 2 3 ∷ link 7 1 5 1 ∷ link 8 2 2 4 ∷ link 2 2 7 3 ∷ link 2 2 3 2 ∷ link 3 1 9 1 ∷ []) []
+    play (most 3 0 3 1 2 1 ∷ least 2 0 3 4 2 2 ∷ bat 7 0 1 1 2 0x0000000000000001 ∷ least 9 0 2 1 3 1 ∷ proc 5 0 1 1 full ∷ bat 8 0 1 2 2 0x3fe6666666666666 ∷ []) (link 3 1 2 2 ∷ link 3 1 3 1 ∷ link 3 1 3 3 ∷ link 8 2 5 1 ∷ link 2 2 5 1 ∷ link 8 2 99 3 ∷ link 9 1 9 2 ∷ link 2 2 2 3 ∷ link 7 1 5 1 ∷ link 8 2 2 4 ∷ link 2 2 7 3 ∷ link 2 2 3 2 ∷ link 3 1 9 1 ∷ []) []
     []
     (job 9 2 1 ∷ until 0x401c000000000000 1 ∷ look ∷ job 9 1 1 ∷ inject 0 0 9 1 0x401c000000000000 1 ∷ status 8 ∷ steps 1 ∷ look ∷ inject 0 0 9 1 0x3ff0000000000000 1 ∷ job 9 1 1 ∷ step ∷ [])
     ≡ seen
@@ -164,7 +164,7 @@ case-264 = refl
 
 -- 100363
 pub case-265 :
-    play (proc 65535 0 1 2 1 ∷ bat 32768 0 1 1 1 0x3e112e0be826d695 ∷ coup 4096 0 ∷ bat 256 4096 1 2 4611686018427387904 0x3ff0000000000000 ∷ proc 65534 4096 1 1 full ∷ bat 255 0 1 1 1 0x0011fa182c40c60d ∷ bat 257 4096 1 1 3 0x3ff0000000000000 ∷ []) (link 4096 1 32768 2 ∷ link 65534 1 255 2 ∷ link 255 1 4096 1 ∷ link 255 1 65535 1 ∷ link 32768 1 65535 1 ∷ link 4096 1 32768 4 ∷ []) (inner 4096 256 2 65534 1 ∷ into 4096 1 257 2 ∷ inner 4096 256 2 65534 1 ∷ into 4096 1 65534 1 ∷ inner 4096 256 2 257 1 ∷ inner 4096 65534 1 65534 1 ∷ [])
+    play (proc 65535 0 1 2 1 ∷ bat 32768 0 1 1 1 0x3e112e0be826d695 ∷ coup 4096 0 ∷ bat 256 4096 1 2 4611686018427387904 0x3ff0000000000000 ∷ proc 65534 4096 1 1 32 ∷ bat 255 0 1 1 1 0x0011fa182c40c60d ∷ bat 257 4096 1 1 3 0x3ff0000000000000 ∷ []) (link 4096 1 32768 2 ∷ link 65534 1 255 2 ∷ link 255 1 4096 1 ∷ link 255 1 65535 1 ∷ link 32768 1 65535 1 ∷ link 4096 1 32768 4 ∷ []) (inner 4096 256 2 65534 1 ∷ into 4096 1 257 2 ∷ inner 4096 256 2 65534 1 ∷ into 4096 1 65534 1 ∷ inner 4096 256 2 257 1 ∷ inner 4096 65534 1 65534 1 ∷ [])
     (0x4010000000000000 ∷ 0x3ff0000000000000 ∷ [])
     (job 65535 1 2 ∷ job 65535 1 2 ∷ job 65535 1 3 ∷ reset-global-time ∷ step ∷ look ∷ step ∷ look ∷ reset-global-time ∷ job 255 3 2 ∷ job 65535 1 2 ∷ job 255 4 1 ∷ steps 2 ∷ [])
     ≡ seen
@@ -197,7 +197,7 @@ case-267 = refl
 
 -- 100368
 pub case-268 :
-    play (coup 9 0 ∷ proc 2 9 1 2 full ∷ proc 3 9 1 2 1 ∷ proc 1 9 1 2 0 ∷ []) (link 9 3 9 1 ∷ link 9 2 99 4 ∷ link 9 2 9 1 ∷ link 9 3 9 2 ∷ []) (inner 9 2 2 2 1 ∷ into 9 1 1 1 ∷ into 9 1 1 1 ∷ inner 9 3 2 2 1 ∷ into 9 2 2 1 ∷ inner 9 3 2 1 1 ∷ [])
+    play (coup 9 0 ∷ proc 2 9 1 2 32 ∷ proc 3 9 1 2 1 ∷ proc 1 9 1 2 0 ∷ []) (link 9 3 9 1 ∷ link 9 2 99 4 ∷ link 9 2 9 1 ∷ link 9 3 9 2 ∷ []) (inner 9 2 2 2 1 ∷ into 9 1 1 1 ∷ into 9 1 1 1 ∷ inner 9 3 2 2 1 ∷ into 9 2 2 1 ∷ inner 9 3 2 1 1 ∷ [])
     (0x3ff0000000000000 ∷ 0x4004000000000000 ∷ [])
     (job 9 2 1 ∷ job 9 1 3 ∷ status 1 ∷ until 0x4024000000000000 2 ∷ [])
     ≡ seen
@@ -219,7 +219,7 @@ case-269 = refl
 
 -- 100372
 pub case-270 :
-    play (proc 2 0 1 2 full ∷ bat 5 0 1 2 2 0x3ff0000000000000 ∷ least 3 0 2 4 1 1 ∷ proc 1 0 1 2 3 ∷ []) (link 1 2 5 3 ∷ link 1 2 1 1 ∷ link 5 2 2 1 ∷ link 5 2 5 4 ∷ link 3 1 1 1 ∷ link 2 2 2 1 ∷ []) []
+    play (proc 2 0 1 2 32 ∷ bat 5 0 1 2 2 0x3ff0000000000000 ∷ least 3 0 2 4 1 1 ∷ proc 1 0 1 2 3 ∷ []) (link 1 2 5 3 ∷ link 1 2 1 1 ∷ link 5 2 2 1 ∷ link 5 2 5 4 ∷ link 3 1 1 1 ∷ link 2 2 2 1 ∷ []) []
     (0x0011fa182c40c60d ∷ 0x3fb999999999999a ∷ 0 ∷ 0x401c000000000000 ∷ 0x4004000000000000 ∷ [])
     (job 1 1 2 ∷ job 2 1 2 ∷ inject 0 0 2 1 0x3fd3333333333333 1 ∷ steps 2 ∷ look ∷ reset ∷ steps 3 ∷ look ∷ until 0x3ff0000000000000 503 ∷ [])
     ≡ seen

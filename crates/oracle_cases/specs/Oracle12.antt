@@ -21,7 +21,7 @@ case-276 = refl
 
 -- 100379
 pub case-277 :
-    play (least 6 0 1 2 3 2 ∷ least 2 0 4 2 1 2 ∷ bat 8 0 1 1 4611686018427387904 0x4028b0a3d70a3d71 ∷ bat 1 0 1 1 1 0x3fb999999999999a ∷ proc 4 0 1 2 2 ∷ []) (link 2 2 2 1 ∷ link 2 2 2 4 ∷ link 6 2 99 4 ∷ link 1 1 1 4 ∷ link 6 2 8 1 ∷ link 8 1 6 2 ∷ link 1 1 99 4 ∷ link 6 2 2 2 ∷ []) []
+    play (least 6 0 1 2 3 2 ∷ least 2 0 4 2 1 2 ∷ bat 8 0 1 1 4611686018427387904 0x4028b0a3d70a3d71 ∷ bat 1 0 1 1 1 0x3fb999999999999a ∷ proc 4 0 1 2 full ∷ []) (link 2 2 2 1 ∷ link 2 2 2 4 ∷ link 6 2 99 4 ∷ link 1 1 1 4 ∷ link 6 2 8 1 ∷ link 8 1 6 2 ∷ link 1 1 99 4 ∷ link 6 2 2 2 ∷ []) []
     (0x3fd5555555555555 ∷ [])
     (job 2 2 1 ∷ job 6 2 2 ∷ put-in (coup 6 0 ∷ coup 2 6 ∷ coup 8 2 ∷ coup 5 8 ∷ least 3 5 4 2 3 1 ∷ most 1 2 4 1 3 2 ∷ []) (link 8 2 6 1 ∷ link 6 1 6 1 ∷ link 6 2 99 2 ∷ link 6 2 99 3 ∷ []) (inner 6 2 1 2 1 ∷ out 6 2 1 1 ∷ out 2 8 2 2 ∷ into 5 2 3 4 ∷ into 6 1 2 1 ∷ into 2 1 1 1 ∷ out 6 2 2 2 ∷ out 2 1 2 1 ∷ into 5 1 3 4 ∷ out 5 3 1 1 ∷ inner 2 8 2 8 2 ∷ inner 2 1 2 98 3 ∷ out 6 2 2 2 ∷ inner 6 2 1 2 1 ∷ into 2 1 8 2 ∷ inner 6 2 2 2 4 ∷ into 8 2 5 1 ∷ out 8 5 1 2 ∷ into 5 1 3 4 ∷ inner 6 2 1 98 2 ∷ into 8 2 5 2 ∷ []) ∷ step ∷ look ∷ job 6 1 2 ∷ step ∷ look ∷ job 6 1 2 ∷ job 6 1 3 ∷ job 6 1 3 ∷ job 6 1 2 ∷ step ∷ look ∷ inject 5 3 6 1 0x4010000000000000 3 ∷ job 97 3 1 ∷ put-in (coup 3 0 ∷ coup 7 3 ∷ bat 5 7 1 2 1 0x3fd2492492492492 ∷ least 1 3 3 2 1 1 ∷ []) (link 5 2 3 2 ∷ link 3 3 99 2 ∷ link 3 4 3 2 ∷ link 3 4 99 1 ∷ []) (into 7 2 5 2 ∷ into 3 1 1 3 ∷ out 7 5 2 2 ∷ out 7 5 2 1 ∷ into 3 2 1 2 ∷ into 7 1 5 2 ∷ into 3 1 1 3 ∷ into 7 2 5 4 ∷ inner 3 7 2 7 2 ∷ into 3 3 1 1 ∷ inner 3 7 1 1 3 ∷ into 3 2 1 3 ∷ out 7 5 2 2 ∷ into 3 1 1 2 ∷ []) ∷ step ∷ look ∷ inject 0 0 3 1 0x3ff0000000000000 3 ∷ steps 1 ∷ look ∷ job 3 1 3 ∷ status 1 ∷ step ∷ [])
     ≡ seen
@@ -43,7 +43,7 @@ case-278 = refl
 
 -- 100381
 pub case-279 :
-    play (bat 4 0 1 1 2 0x4004000000000000 ∷ least 3 0 3 1 2 2 ∷ bat 6 0 1 1 4 0x3ff0000000000000 ∷ proc 2 0 1 2 2 ∷ proc 9 0 1 2 0 ∷ []) (link 4 1 3 1 ∷ link 2 2 3 2 ∷ link 3 2 6 3 ∷ link 9 2 3 1 ∷ link 4 1 3 2 ∷ link 9 2 3 3 ∷ link 2 2 4 1 ∷ link 9 2 2 1 ∷ link 6 1 3 2 ∷ link 6 1 3 2 ∷ []) []
+    play (bat 4 0 1 1 2 0x4004000000000000 ∷ least 3 0 3 1 2 2 ∷ bat 6 0 1 1 4 0x3ff0000000000000 ∷ proc 2 0 1 2 full ∷ proc 9 0 1 2 0 ∷ []) (link 4 1 3 1 ∷ link 2 2 3 2 ∷ link 3 2 6 3 ∷ link 9 2 3 1 ∷ link 4 1 3 2 ∷ link 9 2 3 3 ∷ link 2 2 4 1 ∷ link 9 2 2 1 ∷ link 6 1 3 2 ∷ link 6 1 3 2 ∷ []) []
     (0x4028b0a3d70a3d71 ∷ [])
     (job 9 1 3 ∷ put-in (coup 2 0 ∷ coup 1 2 ∷ coup 5 1 ∷ coup 6 5 ∷ proc 9 6 1 2 1 ∷ proc 4 6 1 2 8 ∷ proc 8 2 1 2 8 ∷ []) (link 2 3 99 4 ∷ link 8 2 2 3 ∷ link 2 1 2 1 ∷ link 2 2 99 3 ∷ []) (into 2 1 8 1 ∷ inner 2 8 2 1 1 ∷ into 1 1 5 1 ∷ out 6 4 2 2 ∷ out 1 5 1 2 ∷ inner 2 8 2 8 1 ∷ out 1 5 1 1 ∷ inner 2 8 2 8 1 ∷ out 6 9 2 2 ∷ into 6 1 4 9 ∷ into 5 1 6 1 ∷ out 6 9 2 2 ∷ out 1 5 1 1 ∷ inner 2 8 2 8 1 ∷ into 1 2 5 1 ∷ out 5 6 2 1 ∷ into 5 1 6 1 ∷ inner 6 9 2 4 1 ∷ into 5 1 6 1 ∷ []) ∷ step ∷ look ∷ job 2 1 1 ∷ steps 2 ∷ look ∷ until 0x40305851eb851eb8 500 ∷ [])
     ≡ seen
@@ -65,7 +65,7 @@ case-280 = refl
 
 -- 100386
 pub case-281 :
-    play (coup 5 0 ∷ coup 6 5 ∷ proc 4 6 0 0 2 ∷ coup 7 6 ∷ coup 2 7 ∷ proc 1 7 0 256 3 ∷ []) (link 5 0 99 256 ∷ link 4 0 5 256 ∷ link 5 0 99 255 ∷ []) (out 5 6 0 0 ∷ into 7 0 1 0 ∷ out 7 1 256 0 ∷ into 7 0 2 255 ∷ inner 6 4 0 4 0 ∷ inner 6 7 0 4 0 ∷ into 5 256 6 0 ∷ into 5 0 6 256 ∷ inner 7 1 256 2 0 ∷ inner 6 7 0 4 0 ∷ into 6 256 4 0 ∷ inner 5 6 256 98 256 ∷ into 7 0 1 0 ∷ into 6 0 7 0 ∷ inner 5 6 0 6 256 ∷ [])
+    play (coup 5 0 ∷ coup 6 5 ∷ proc 4 6 0 0 full ∷ coup 7 6 ∷ coup 2 7 ∷ proc 1 7 0 256 3 ∷ []) (link 5 0 99 256 ∷ link 4 0 5 256 ∷ link 5 0 99 255 ∷ []) (out 5 6 0 0 ∷ into 7 0 1 0 ∷ out 7 1 256 0 ∷ into 7 0 2 255 ∷ inner 6 4 0 4 0 ∷ inner 6 7 0 4 0 ∷ into 5 256 6 0 ∷ into 5 0 6 256 ∷ inner 7 1 256 2 0 ∷ inner 6 7 0 4 0 ∷ into 6 256 4 0 ∷ inner 5 6 256 98 256 ∷ into 7 0 1 0 ∷ into 6 0 7 0 ∷ inner 5 6 0 6 256 ∷ [])
     (0x3fb999999999999a ∷ 0x3fd2492492492492 ∷ 0x3fd2492492492492 ∷ 0x3e112e0be826d695 ∷ 0x3e112e0be826d695 ∷ 0x3fe6666666666666 ∷ [])
     (job 5 0 2 ∷ steps 0 ∷ look ∷ status 6 ∷ job 5 1000 2 ∷ step ∷ look ∷ steps 3 ∷ look ∷ until 0x4024c57c57c57c58 5 ∷ [])
     ≡ seen
@@ -76,7 +76,7 @@ case-281 = refl
 
 -- 100388
 pub case-282 :
-    play (coup 6 0 ∷ proc 2 6 1 1 2 ∷ proc 3 6 1 2 2 ∷ proc 1 6 1 1 2 ∷ []) (link 6 2 6 1 ∷ link 6 4 99 1 ∷ link 6 3 99 3 ∷ link 6 3 6 1 ∷ []) (inner 6 1 1 3 1 ∷ inner 6 1 1 2 1 ∷ inner 6 3 2 1 9 ∷ into 6 2 1 1 ∷ [])
+    play (coup 6 0 ∷ proc 2 6 1 1 full ∷ proc 3 6 1 2 2 ∷ proc 1 6 1 1 2 ∷ []) (link 6 2 6 1 ∷ link 6 4 99 1 ∷ link 6 3 99 3 ∷ link 6 3 6 1 ∷ []) (inner 6 1 1 3 1 ∷ inner 6 1 1 2 1 ∷ inner 6 3 2 1 9 ∷ into 6 2 1 1 ∷ [])
     (0x0000000000000001 ∷ 0x4010000000000000 ∷ 0x4010000000000000 ∷ 0x3fd2492492492492 ∷ 0x3ff0000000000000 ∷ [])
     (inject 65535 3 6 2 0 3 ∷ job 6 2 2 ∷ until 0x401c000000000000 4 ∷ [])
     ≡ seen
@@ -109,7 +109,7 @@ case-284 = refl
 
 -- 100392
 pub case-285 :
-    play (coup 9 0 ∷ coup 3 9 ∷ proc 7 3 1 2 3 ∷ proc 2 3 1 2 full ∷ proc 1 3 1 2 1 ∷ []) (link 1 2 9 1 ∷ link 9 1 9 1 ∷ link 9 1 9 1 ∷ []) (inner 3 2 2 2 1 ∷ inner 9 3 1 3 2 ∷ out 9 3 1 1 ∷ inner 3 2 2 1 1 ∷ into 9 1 3 2 ∷ into 9 1 3 2 ∷ out 3 7 2 1 ∷ inner 3 2 2 7 1 ∷ inner 9 3 1 3 2 ∷ inner 3 2 2 7 1 ∷ into 3 2 2 1 ∷ out 3 7 2 1 ∷ out 3 1 2 2 ∷ inner 3 2 2 2 1 ∷ [])
+    play (coup 9 0 ∷ coup 3 9 ∷ proc 7 3 1 2 3 ∷ proc 2 3 1 2 32 ∷ proc 1 3 1 2 1 ∷ []) (link 1 2 9 1 ∷ link 9 1 9 1 ∷ link 9 1 9 1 ∷ []) (inner 3 2 2 2 1 ∷ inner 9 3 1 3 2 ∷ out 9 3 1 1 ∷ inner 3 2 2 1 1 ∷ into 9 1 3 2 ∷ into 9 1 3 2 ∷ out 3 7 2 1 ∷ inner 3 2 2 7 1 ∷ inner 9 3 1 3 2 ∷ inner 3 2 2 7 1 ∷ into 3 2 2 1 ∷ out 3 7 2 1 ∷ out 3 1 2 2 ∷ inner 3 2 2 2 1 ∷ [])
     (0x3fd2492492492492 ∷ 0x3fe6666666666666 ∷ 0x401c000000000000 ∷ 0x4028b0a3d70a3d71 ∷ 0x4010000000000000 ∷ [])
     (job 9 1 3 ∷ job 97 3 2 ∷ until 0 501 ∷ look ∷ steps 2 ∷ look ∷ job 9 1 1 ∷ until 0x4024924924924925 5 ∷ [])
     ≡ seen
@@ -120,7 +120,7 @@ case-285 = refl
 
 -- 100396
 pub case-286 :
-    play (coup 2 0 ∷ coup 1 2 ∷ coup 256 1 ∷ most 4096 1 4 2 3 2 ∷ proc 255 2 1 2 full ∷ []) (link 2 1 99 4 ∷ link 256 4 2 1 ∷ link 2 1 99 4 ∷ link 2 1 99 1 ∷ []) (inner 2 255 2 255 17 ∷ into 2 1 255 1 ∷ inner 2 1 1 1 1 ∷ inner 1 256 4 256 4 ∷ inner 2 1 2 1 1 ∷ out 1 256 1 1 ∷ inner 1 4096 2 4096 4 ∷ into 2 2 1 1 ∷ inner 1 256 1 256 4 ∷ into 1 1 4096 4 ∷ inner 1 4096 2 4096 3 ∷ inner 2 255 2 1 1 ∷ into 1 1 256 4 ∷ out 2 255 2 1 ∷ [])
+    play (coup 2 0 ∷ coup 1 2 ∷ coup 256 1 ∷ most 4096 1 4 2 3 2 ∷ proc 255 2 1 2 32 ∷ []) (link 2 1 99 4 ∷ link 256 4 2 1 ∷ link 2 1 99 4 ∷ link 2 1 99 1 ∷ []) (inner 2 255 2 255 17 ∷ into 2 1 255 1 ∷ inner 2 1 1 1 1 ∷ inner 1 256 4 256 4 ∷ inner 2 1 2 1 1 ∷ out 1 256 1 1 ∷ inner 1 4096 2 4096 4 ∷ into 2 2 1 1 ∷ inner 1 256 1 256 4 ∷ into 1 1 4096 4 ∷ inner 1 4096 2 4096 3 ∷ inner 2 255 2 1 1 ∷ into 1 1 256 4 ∷ out 2 255 2 1 ∷ [])
     (0x3fd2492492492492 ∷ [])
     (inject 0 0 2 1 0x3fd3333333333333 2 ∷ step ∷ look ∷ steps 2 ∷ [])
     ≡ seen
@@ -131,7 +131,7 @@ case-286 = refl
 
 -- 100397
 pub case-287 :
-    play (proc 3 0 1 1 1 ∷ proc 6 0 1 2 8 ∷ least 4 0 3 4 1 2 ∷ proc 9 0 1 2 full ∷ proc 1 0 1 1 1 ∷ []) (link 9 2 1 1 ∷ link 9 2 1 1 ∷ link 6 2 4 1 ∷ link 6 2 9 1 ∷ link 9 2 1 1 ∷ link 1 1 4 4 ∷ link 4 2 4 1 ∷ link 3 1 4 3 ∷ link 1 1 3 1 ∷ link 3 1 4 65000 ∷ []) []
+    play (proc 3 0 1 1 1 ∷ proc 6 0 1 2 8 ∷ least 4 0 3 4 1 2 ∷ proc 9 0 1 2 32 ∷ proc 1 0 1 1 1 ∷ []) (link 9 2 1 1 ∷ link 9 2 1 1 ∷ link 6 2 4 1 ∷ link 6 2 9 1 ∷ link 9 2 1 1 ∷ link 1 1 4 4 ∷ link 4 2 4 1 ∷ link 3 1 4 3 ∷ link 1 1 3 1 ∷ link 3 1 4 65000 ∷ []) []
     (0x3fd2492492492492 ∷ 0x3fe6666666666666 ∷ 0x3fd2492492492492 ∷ 0x3fe6666666666666 ∷ [])
     (job 1 1 3 ∷ job 6 1 1 ∷ job 4 1 3 ∷ job 6 1 1 ∷ job 9 1 3 ∷ job 6 1 2 ∷ job 4 1 2 ∷ job 6 1 3 ∷ inject 0 0 3 1 0x3fb999999999999a 2 ∷ until 0 501 ∷ look ∷ step ∷ look ∷ until 0 2 ∷ [])
     ≡ seen
@@ -153,7 +153,7 @@ case-288 = refl
 
 -- 100400
 pub case-289 :
-    play (coup 8 0 ∷ proc 5 8 1 2 1 ∷ proc 3 8 1 2 2 ∷ proc 4 8 1 1 8 ∷ proc 9 8 1 1 full ∷ bat 1 8 1 2 1 0x3fb999999999999a ∷ most 7 0 4 1 2 1 ∷ []) (link 7 1 7 1 ∷ link 8 1 7 2 ∷ link 8 1 7 4 ∷ link 7 1 99 2 ∷ link 8 1 7 4 ∷ link 8 1 7 4 ∷ []) (out 8 1 2 1 ∷ inner 8 4 1 98 3 ∷ into 8 1 9 1 ∷ into 8 1 1 1 ∷ [])
+    play (coup 8 0 ∷ proc 5 8 1 2 1 ∷ proc 3 8 1 2 full ∷ proc 4 8 1 1 8 ∷ proc 9 8 1 1 32 ∷ bat 1 8 1 2 1 0x3fb999999999999a ∷ most 7 0 4 1 2 1 ∷ []) (link 7 1 7 1 ∷ link 8 1 7 2 ∷ link 8 1 7 4 ∷ link 7 1 99 2 ∷ link 8 1 7 4 ∷ link 8 1 7 4 ∷ []) (out 8 1 2 1 ∷ inner 8 4 1 98 3 ∷ into 8 1 9 1 ∷ into 8 1 1 1 ∷ [])
     (0x3fb999999999999a ∷ 0 ∷ [])
     (job 8 1 1 ∷ step ∷ look ∷ steps 3 ∷ look ∷ job 7 1 1 ∷ job 8 1 2 ∷ until 0x401c666666666666 1 ∷ [])
     ≡ seen
@@ -175,7 +175,7 @@ case-290 = refl
 
 -- 100402
 pub case-291 :
-    play (coup 65534 0 ∷ proc 32768 65534 1 2 full ∷ proc 1 0 1 1 8 ∷ least 4096 0 3 2 4 2 ∷ []) (link 65534 2 4096 2 ∷ link 65534 2 4096 2 ∷ link 1 1 4096 4 ∷ link 4096 2 4096 4 ∷ link 1 1 4096 3 ∷ link 1 1 65534 2 ∷ link 65534 1 4096 3 ∷ []) (out 65534 32768 2 1 ∷ inner 65534 32768 2 32768 1 ∷ out 65534 32768 2 2 ∷ into 65534 1 32768 1 ∷ into 65534 2 32768 1 ∷ inner 65534 32768 2 32768 65000 ∷ [])
+    play (coup 65534 0 ∷ proc 32768 65534 1 2 32 ∷ proc 1 0 1 1 8 ∷ least 4096 0 3 2 4 2 ∷ []) (link 65534 2 4096 2 ∷ link 65534 2 4096 2 ∷ link 1 1 4096 4 ∷ link 4096 2 4096 4 ∷ link 1 1 4096 3 ∷ link 1 1 65534 2 ∷ link 65534 1 4096 3 ∷ []) (out 65534 32768 2 1 ∷ inner 65534 32768 2 32768 1 ∷ out 65534 32768 2 2 ∷ into 65534 1 32768 1 ∷ into 65534 2 32768 1 ∷ inner 65534 32768 2 32768 65000 ∷ [])
     (0x3fb999999999999a ∷ 0x3fb999999999999a ∷ 0x3e112e0be826d695 ∷ 0x4028b0a3d70a3d71 ∷ [])
     (job 65534 1 3 ∷ job 1 1 3 ∷ inject 0 0 65534 1 0x401c000000000000 2 ∷ inject 0 0 65534 4 0x401c000000000000 2 ∷ job 65534 1 1 ∷ inject 65535 3 65534 1 0 2 ∷ steps 1 ∷ look ∷ put-in (coup 1 0 ∷ coup 32768 1 ∷ proc 4096 32768 1 2 3 ∷ bat 2 0 1 2 2 0x3ff0000000000000 ∷ bat 65534 1 1 2 3 0 ∷ proc 255 32768 1 2 1 ∷ []) (link 2 2 1 2 ∷ link 1 2 99 3 ∷ link 1 2 1 2 ∷ link 65534 2 2 1 ∷ []) (into 32768 2 255 1 ∷ into 32768 1 4096 1 ∷ inner 1 65534 2 32768 3 ∷ out 1 32768 1 2 ∷ out 1 65534 2 1 ∷ inner 1 32768 1 65534 3 ∷ inner 1 65534 2 65534 4 ∷ inner 32768 255 2 4096 17 ∷ out 1 65534 2 2 ∷ inner 32768 255 2 4096 1 ∷ into 1 2 32768 2 ∷ out 32768 255 2 2 ∷ out 32768 255 2 1 ∷ into 1 2 32768 2 ∷ inner 1 32768 1 98 1 ∷ into 1 1 32768 1 ∷ []) ∷ job 2 1 3 ∷ step ∷ look ∷ step ∷ look ∷ step ∷ look ∷ step ∷ look ∷ put-in (coup 257 0 ∷ coup 65535 257 ∷ coup 4096 65535 ∷ bat 255 0 1 2 3 0x3fe6666666666666 ∷ proc 32768 4096 1 1 0 ∷ []) (link 255 2 257 1 ∷ link 257 1 257 1 ∷ link 255 2 257 1 ∷ []) (into 257 1 65535 2 ∷ out 65535 4096 1 1 ∷ into 4096 2 32768 1 ∷ inner 257 65535 2 65535 2 ∷ inner 65535 4096 1 98 2 ∷ inner 65535 4096 2 4096 4 ∷ into 65535 2 4096 2 ∷ out 65535 4096 1 2 ∷ inner 65535 4096 1 4096 2 ∷ inner 257 65535 2 65535 2 ∷ inner 4096 32768 1 32768 1 ∷ into 257 1 65535 2 ∷ inner 4096 32768 1 32768 1 ∷ inner 4096 32768 1 98 2 ∷ into 257 1 65535 2 ∷ out 4096 32768 1 1 ∷ inner 257 65535 2 65535 2 ∷ into 65535 2 4096 2 ∷ out 65535 4096 1 2 ∷ into 65535 2 4096 2 ∷ out 4096 32768 1 1 ∷ []) ∷ step ∷ look ∷ job 257 4 3 ∷ status 255 ∷ step ∷ look ∷ job 255 3 1 ∷ step ∷ look ∷ until 0x4000000000225c18 2 ∷ [])
     ≡ seen
@@ -197,7 +197,7 @@ case-292 = refl
 
 -- 100404
 pub case-293 :
-    play (bat 3 0 1 2 4 0 ∷ least 9 0 2 4 3 2 ∷ bat 8 0 1 1 1 0x4010000000000000 ∷ proc 4 0 1 1 3 ∷ proc 6 0 1 1 2 ∷ proc 5 0 1 1 3 ∷ least 7 0 4 1 2 1 ∷ []) (link 7 1 8 1 ∷ link 6 1 3 3 ∷ link 5 1 3 1 ∷ link 9 2 9 3 ∷ link 9 2 4 1 ∷ link 8 1 9 4 ∷ link 8 1 7 4 ∷ link 7 1 7 2 ∷ link 9 2 7 1 ∷ link 3 2 5 1 ∷ link 8 1 5 1 ∷ link 9 2 9 2 ∷ []) []
+    play (bat 3 0 1 2 4 0 ∷ least 9 0 2 4 3 2 ∷ bat 8 0 1 1 1 0x4010000000000000 ∷ proc 4 0 1 1 3 ∷ proc 6 0 1 1 full ∷ proc 5 0 1 1 3 ∷ least 7 0 4 1 2 1 ∷ []) (link 7 1 8 1 ∷ link 6 1 3 3 ∷ link 5 1 3 1 ∷ link 9 2 9 3 ∷ link 9 2 4 1 ∷ link 8 1 9 4 ∷ link 8 1 7 4 ∷ link 7 1 7 2 ∷ link 9 2 7 1 ∷ link 3 2 5 1 ∷ link 8 1 5 1 ∷ link 9 2 9 2 ∷ []) []
     (0x3fb999999999999a ∷ 0x3fb999999999999a ∷ 0x3ff0000000000000 ∷ 0x4010000000000000 ∷ 0x3ff0000000000000 ∷ [])
     (job 3 2 3 ∷ step ∷ look ∷ until 0x401c000000000000 11 ∷ [])
     ≡ seen
@@ -221,7 +221,7 @@ case-294 = refl
 pub case-295 :
     play (coup 1 0 ∷ proc 8 1 1 2 1 ∷ proc 2 1 1 2 2 ∷ proc 6 1 1 2 1 ∷ []) (link 6 2 1 2 ∷ link 1 2 1 1 ∷ []) (into 1 1 6 1 ∷ into 1 1 2 1 ∷ inner 1 6 2 2 1 ∷ inner 1 8 2 6 1 ∷ out 1 2 2 2 ∷ into 1 2 2 1 ∷ inner 1 8 2 2 1 ∷ inner 1 8 2 6 1 ∷ [])
     (0x3ff0000000000000 ∷ 0x3fb999999999999a ∷ 0x4010000000000000 ∷ 0x3fd5555555555555 ∷ 0x4010000000000000 ∷ [])
-    (job 1 2 4294967295 ∷ step ∷ look ∷ put-in (coup 4 0 ∷ coup 9 4 ∷ proc 2 9 1 1 3 ∷ bat 8 9 1 2 3 0x3fb999999999999a ∷ proc 7 9 1 1 2 ∷ proc 6 9 1 1 full ∷ []) (link 4 2 4 1 ∷ link 6 1 4 2 ∷ link 4 2 4 3 ∷ []) (out 4 9 1 2 ∷ out 9 2 1 2 ∷ out 9 7 1 1 ∷ inner 4 9 1 98 1 ∷ into 4 1 9 1 ∷ inner 9 6 1 2 1 ∷ inner 9 6 1 7 1 ∷ into 9 1 8 4 ∷ out 9 7 1 1 ∷ into 9 1 2 1 ∷ []) ∷ inject 65535 3 4 1 0 4294967295 ∷ inject 0 0 4 1 0x4004000000000000 4294967295 ∷ reset-global-time ∷ step ∷ look ∷ step ∷ look ∷ inject 0 0 4 1 0x3fb999999999999a 4294967295 ∷ reset ∷ reset-global-time ∷ job 4 1 2147483648 ∷ steps 4 ∷ look ∷ reset-messages ∷ steps 2 ∷ [])
+    (job 1 2 4294967295 ∷ step ∷ look ∷ put-in (coup 4 0 ∷ coup 9 4 ∷ proc 2 9 1 1 3 ∷ bat 8 9 1 2 3 0x3fb999999999999a ∷ proc 7 9 1 1 2 ∷ proc 6 9 1 1 32 ∷ []) (link 4 2 4 1 ∷ link 6 1 4 2 ∷ link 4 2 4 3 ∷ []) (out 4 9 1 2 ∷ out 9 2 1 2 ∷ out 9 7 1 1 ∷ inner 4 9 1 98 1 ∷ into 4 1 9 1 ∷ inner 9 6 1 2 1 ∷ inner 9 6 1 7 1 ∷ into 9 1 8 4 ∷ out 9 7 1 1 ∷ into 9 1 2 1 ∷ []) ∷ inject 65535 3 4 1 0 4294967295 ∷ inject 0 0 4 1 0x4004000000000000 4294967295 ∷ reset-global-time ∷ step ∷ look ∷ step ∷ look ∷ inject 0 0 4 1 0x3fb999999999999a 4294967295 ∷ reset ∷ reset-global-time ∷ job 4 1 2147483648 ∷ steps 4 ∷ look ∷ reset-messages ∷ steps 2 ∷ [])
     ≡ seen
     (ran 1 [] 0 1 ∷ holds (c0 ∷ p0 ∷ pActive 0x3ff0000000000000 (4294967295 ∷ []) ∷ p0 ∷ []) [] ∷ ran 1 [] 0 2 ∷ holds (c0 ∷ c0 ∷ pActive 0x3fb999999999999a (4294967295 ∷ 4294967295 ∷ []) ∷ bBatching 0x3fb999999999999a (4294967295 ∷ 4294967295 ∷ []) ∷ p0 ∷ p0 ∷ []) [] ∷ ran 1 [] 0x3fb999999999999a 2 ∷ holds (c0 ∷ c0 ∷ pPassive 0 (4294967295 ∷ []) ∷ b0 ∷ p0 ∷ p0 ∷ []) [] ∷ ran 4 [] 0x4010000000000000 4 ∷ holds (c0 ∷ c0 ∷ pActive 0x3fd5555555555555 (2147483648 ∷ []) ∷ b0 ∷ p0 ∷ p0 ∷ []) [] ∷ ran 2 [] 0x4011555555555555 4 ∷ [])
     (c0 ∷ c0 ∷ p0 ∷ b0 ∷ p0 ∷ p0 ∷ []) []
@@ -230,7 +230,7 @@ case-295 = refl
 
 -- 100407
 pub case-296 :
-    play (proc 2 0 1 1 1 ∷ least 8 0 3 4 1 1 ∷ proc 6 0 1 2 full ∷ most 3 0 3 4 1 1 ∷ bat 1 0 1 2 3 0x3fe6666666666666 ∷ []) (link 8 1 3 4 ∷ link 8 1 3 4 ∷ link 3 1 2 1 ∷ link 1 2 8 3 ∷ link 6 2 8 3 ∷ link 6 2 6 1 ∷ link 8 1 8 65000 ∷ link 1 2 99 3 ∷ link 2 1 8 4 ∷ link 2 1 6 1 ∷ link 6 2 3 1 ∷ link 2 1 3 3 ∷ link 2 1 3 1 ∷ link 3 1 1 4 ∷ []) []
+    play (proc 2 0 1 1 1 ∷ least 8 0 3 4 1 1 ∷ proc 6 0 1 2 32 ∷ most 3 0 3 4 1 1 ∷ bat 1 0 1 2 3 0x3fe6666666666666 ∷ []) (link 8 1 3 4 ∷ link 8 1 3 4 ∷ link 3 1 2 1 ∷ link 1 2 8 3 ∷ link 6 2 8 3 ∷ link 6 2 6 1 ∷ link 8 1 8 65000 ∷ link 1 2 99 3 ∷ link 2 1 8 4 ∷ link 2 1 6 1 ∷ link 6 2 3 1 ∷ link 2 1 3 3 ∷ link 2 1 3 1 ∷ link 3 1 1 4 ∷ []) []
     (0x3fd5555555555555 ∷ [])
     (job 2 1 3 ∷ job 1 4 1 ∷ inject 0 0 8 4 0x3fb999999999999a 1 ∷ job 3 1 2 ∷ job 8 4 3 ∷ steps 2 ∷ look ∷ job 6 1 3 ∷ job 2 1 1 ∷ step ∷ [])
     ≡ seen
@@ -241,7 +241,7 @@ case-296 = refl
 
 -- 100408
 pub case-297 :
-    play (coup 2 0 ∷ coup 1 2 ∷ coup 3 1 ∷ coup 6 3 ∷ proc 9 6 65534 256 2 ∷ bat 4 0 65534 65534 4 0 ∷ []) (link 2 65534 4 65535 ∷ link 1 256 99 256 ∷ link 4 65534 2 65534 ∷ []) (into 6 256 9 65534 ∷ out 2 1 256 65534 ∷ inner 2 1 256 98 65535 ∷ into 2 65534 1 256 ∷ out 1 3 65534 256 ∷ out 2 1 256 65534 ∷ out 3 6 256 65534 ∷ out 3 6 256 256 ∷ into 3 256 6 256 ∷ into 2 65534 1 65534 ∷ into 2 65534 1 65535 ∷ into 1 256 3 32768 ∷ out 6 9 256 65534 ∷ out 1 3 256 256 ∷ inner 3 6 65534 6 256 ∷ out 6 9 256 256 ∷ inner 3 6 256 6 256 ∷ into 3 65534 6 65534 ∷ inner 3 6 65534 6 256 ∷ out 3 6 65534 256 ∷ [])
+    play (coup 2 0 ∷ coup 1 2 ∷ coup 3 1 ∷ coup 6 3 ∷ proc 9 6 65534 256 full ∷ bat 4 0 65534 65534 4 0 ∷ []) (link 2 65534 4 65535 ∷ link 1 256 99 256 ∷ link 4 65534 2 65534 ∷ []) (into 6 256 9 65534 ∷ out 2 1 256 65534 ∷ inner 2 1 256 98 65535 ∷ into 2 65534 1 256 ∷ out 1 3 65534 256 ∷ out 2 1 256 65534 ∷ out 3 6 256 65534 ∷ out 3 6 256 256 ∷ into 3 256 6 256 ∷ into 2 65534 1 65534 ∷ into 2 65534 1 65535 ∷ into 1 256 3 32768 ∷ out 6 9 256 65534 ∷ out 1 3 256 256 ∷ inner 3 6 65534 6 256 ∷ out 6 9 256 256 ∷ inner 3 6 256 6 256 ∷ into 3 65534 6 65534 ∷ inner 3 6 65534 6 256 ∷ out 3 6 65534 256 ∷ [])
     []
     (job 4 65535 2147483648 ∷ until 0x3ff0000000000000 2 ∷ look ∷ job 4 32768 0 ∷ job 4 65535 4294967295 ∷ step ∷ look ∷ job 4 65535 2147483648 ∷ job 4 65534 7 ∷ job 4 32768 7 ∷ inject 65535 3 2 65534 0 7 ∷ inject 65535 3 2 65534 0 2147483648 ∷ steps 2 ∷ look ∷ job 97 256 2147483648 ∷ inject 0 0 2 65534 0x401c000000000000 4294967295 ∷ reset-global-time ∷ reset-messages ∷ job 4 32768 7 ∷ job 2 65534 4294967295 ∷ step ∷ look ∷ step ∷ [])
     ≡ seen
