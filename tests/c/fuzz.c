@@ -388,7 +388,8 @@ static void choose_message(struct given *g) {
     g->source_id = (uint16_t)below(4);
     g->source_port = (uint16_t)(one_in(16) ? random_word() : below(4));
     g->target_id = (uint16_t)(known ? id_of(chain.words, row) : random_word());
-    g->target_port = (uint16_t)(one_in(64) ? random_word() : known && kind_of(chain.words, row) == STOPWATCH ? 1 + below(3) : 1);
+    g->target_port =
+        (uint16_t)(one_in(64) ? random_word() : known && kind_of(chain.words, row) == STOPWATCH ? 1 + below(3) : 1);
     g->content = (uint32_t)(one_in(8) ? any_word() : below(20));
     g->time = any_time();
 }

@@ -116,7 +116,8 @@ static void check_laid(const struct given *g) {
 }
 
 static void check_injected(const struct given *g) {
-    const uint64_t message[JT_MESSAGE_WORDS] = {g->source_id, g->source_port, g->target_id, g->target_port, g->time, g->content};
+    const uint64_t message[JT_MESSAGE_WORDS] = {g->source_id,   g->source_port, g->target_id,
+                                                g->target_port, g->time,        g->content};
     size_t tail = tail_at(g->state);
     size_t end = state_end(g->state);
     CHECK(same(lent_state.words, g->state, tail));
