@@ -25,6 +25,7 @@ static struct {
 } chain;
 
 static uint64_t tried[STATE_ROOM]; /* the chain's state with something changed */
+static uint64_t compared[STATE_ROOM]; /* a state that another call is made on, to compare */
 static struct table first, second, other;
 static uint64_t services[SERVICES_ROOM], other_services[SERVICES_ROOM];
 static size_t services_len;
@@ -295,9 +296,28 @@ static void check_cut(const struct given *g) {
     random_place = place;
 }
 
+/* With 32 written out where the capacity is omitted, a run ends the same in all but these rows. */
+static void check_omitted_is_32(const struct given *g) {
+    struct given written = *g;
+    size_t tail = tail_at(g->state);
+    size_t models_len = (size_t)(JT_MODEL_WORDS * g->state[0]);
+    if (omitting(g->state + 3, models_len) == 0)
+        return;
+    memcpy(compared, g->state, g->state_len * sizeof(uint64_t));
+    give_capacity(compared + 3, models_len, JT_OMITTED_CAPACITY);
+    written.state = compared;
+    checking_calls++;
+    CHECK_NUMBER(kept.number, make(&written));
+    CHECK(same(kept.answer, lent_answer.words, 3));
+    CHECK(same(kept.state + tail, lent_state.words + tail, g->state_len - tail));
+    check_same_rows(g);
+}
+
 static void compare_run(const struct given *g) {
     if (g->sound && (g->kind != STEP_UNTIL || is_time(g->time)))
         check_cut(g);
+    if (g->sound && one_in(4))
+        check_omitted_is_32(g);
     if (kept.answer[2] == JT_END_REFUSED && kept.answer[0] > 0)
         check_kept_steps(g);
     if (kept.answer[2] == JT_END_REACHED && one_in(4))

@@ -196,6 +196,12 @@ static void check_done(const struct given *g) {
 }
 
 /* ---- what a run leaves */
+/* No processor holds more than its capacity, which is 32 where it is omitted. */
+static void check_capacities(const uint64_t *state) {
+    for (size_t i = 0; i < state[0]; i++)
+        CHECK(kind_of(state, i) != PROCESSOR || state[head_at(state, i) + 2] <= capacity_of(row_in(state, i)));
+}
+
 /* After some steps. The messages of the last one are the last rows, but for a step that reached `until`. */
 static void check_stepped(const struct given *g, uint64_t written, int reached) {
     const uint64_t *state = lent_state.words;
@@ -205,6 +211,7 @@ static void check_stepped(const struct given *g, uint64_t written, int reached) 
     if (failures > 0)
         return;
     check_beyond(g, state_end(state));
+    check_capacities(state);
     if (g->kind == STEP_UNTIL)
         CHECK((state[tail + 1] >= g->time) == reached);
     if (!reached) {

@@ -21,6 +21,10 @@ static uint64_t id_of(const uint64_t *state, size_t i) {
     return state[3 + JT_MODEL_WORDS * i];
 }
 
+static const uint64_t *row_in(const uint64_t *state, size_t i) {
+    return state + 3 + JT_MODEL_WORDS * i;
+}
+
 /* A row, rather one without parent. */
 static size_t some_row(const uint64_t *state) {
     size_t i = (size_t)below(state[0]);
@@ -77,7 +81,7 @@ static uint64_t some_mark(void) {
 
 /* A row that holds so many, with a phase and a timer that go with it or not. */
 static void stuff_row(uint64_t *state, size_t i) {
-    static const uint64_t counts[] = {0, 1, 2, 3, 8, 62, 63, 64, 64, 65};
+    static const uint64_t counts[] = {0, 1, 2, 3, 8, 31, 32, 32, 33, 62, 63, 64, 64, 65};
     uint64_t kind = kind_of(state, i);
     uint64_t held = counts[below(sizeof counts / sizeof counts[0])];
     uint64_t *head = state + head_at(state, i);
