@@ -26,7 +26,7 @@ static struct {
 
 static uint64_t tried[STATE_ROOM]; /* the chain's state with something changed */
 static uint64_t compared[STATE_ROOM]; /* a state that another call is made on, to compare */
-static struct table first, second, other;
+static struct table first, second, other, compared_table;
 static uint64_t services[SERVICES_ROOM], other_services[SERVICES_ROOM];
 static size_t services_len;
 
@@ -153,6 +153,12 @@ static void stop_if_wrong(void) {
     exit(1);
 }
 
+/* What was found by other calls is told of the one that they are compared with. */
+static void stop_in(const struct given *g) {
+    making = g->kind;
+    stop_if_wrong();
+}
+
 /* ---- a call made and checked */
 static uint32_t make(const struct given *g) {
     making = g->kind;
@@ -163,7 +169,7 @@ static uint32_t make(const struct given *g) {
     return number;
 }
 
-/* Whether a state is one: 20 comes first, in every call, so all calls must say the same as this one. */
+/* Whether a state is one: 20 comes first, in every call on a state, so all of them must say the same as this one. */
 static int is_state(const uint64_t *state, size_t len) {
     making = GET_GLOBAL_TIME;
     checking_calls++;
@@ -328,9 +334,64 @@ static void compare_run(const struct given *g) {
         check_exact_services(g);
 }
 
+/* ---- intake: it answers as jt_post does, and the first bad row is the first */
+/* What intake says of another table. */
+static uint32_t make_intake(const struct table *t) {
+    struct given asked;
+    memset(&asked, 0, sizeof asked);
+    asked.kind = INTAKE;
+    asked.state = junk;
+    asked.table = t;
+    checking_calls++;
+    return make(&asked);
+}
+
+static void check_as_post(const struct given *g) {
+    struct given posted = *g;
+    posted.kind = POST;
+    posted.state = junk;
+    posted.state_len = table_needs(g->table);
+    checking_calls++;
+    CHECK_NUMBER(kept.number, make(&posted));
+}
+
+static void cut_slice(struct slice *s, size_t len) {
+    s->len = len < s->len ? len : s->len;
+}
+
+/* The table up to so many rows of the part that the first bad one stands in. */
+static void cut_table(const struct table *t, uint64_t part, size_t rows) {
+    copy_table(&compared_table, t);
+    if (part == JT_MODELS)
+        cut_slice(&compared_table.models, JT_MODEL_WORDS * rows);
+    if (part <= JT_CONNECTORS)
+        cut_slice(&compared_table.connectors, part == JT_CONNECTORS ? JT_CONNECTOR_WORDS * rows : 0);
+    cut_slice(&compared_table.couplings, part == JT_COUPLINGS ? JT_COUPLING_WORDS * rows : 0);
+}
+
+/* The rows before the first bad one pass; with it they do not, whatever stands behind it. */
+static void check_first_bad(const struct given *g) {
+    size_t row = (size_t)kept.answer[1];
+    cut_table(g->table, kept.answer[0], row);
+    compared_table.good = 1;
+    CHECK_NUMBER(JT_OK, make_intake(&compared_table));
+    cut_table(g->table, kept.answer[0], row + 1);
+    CHECK_NUMBER(kept.number, make_intake(&compared_table));
+    CHECK(same(kept.answer, lent_answer.words, 3));
+}
+
+static void compare_intake(const struct given *g) {
+    check_as_post(g);
+    if (kept.answer[0] != JT_NOWHERE)
+        check_first_bad(g);
+}
+
 static void compare(const struct given *g) {
     if (is_run(g->kind))
         compare_run(g);
+    if (g->kind == INTAKE)
+        compare_intake(g);
+    stop_in(g);
     if (one_in(8))
         check_twice(g);
     stop_if_wrong();

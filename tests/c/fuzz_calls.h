@@ -9,7 +9,7 @@
 enum { ROWS_ROOM = 6 * 2500, SERVICES_ROOM = 1000 };
 
 enum kind {
-    STATE_WORDS, POST, PUT, INJECT_INPUT, STEP, STEP_N, STEP_UNTIL, RESET, RESET_MESSAGES, RESET_GLOBAL_TIME,
+    STATE_WORDS, INTAKE, POST, PUT, INJECT_INPUT, STEP, STEP_N, STEP_UNTIL, RESET, RESET_MESSAGES, RESET_GLOBAL_TIME,
     GET_STATUS, GET_MESSAGES, GET_GLOBAL_TIME, KINDS
 };
 
@@ -29,9 +29,10 @@ static const struct {
     size_t answer_len; /* words of report, count or time */
 } kinds[KINDS] = {
     [STATE_WORDS] = {"jt_state_words", 3, N(JT_OK), 0},
-    [POST] = {"jt_post", 9, OF_ANY | OF_TABLE, 0},
-    [PUT] = {"jt_put", 7, OF_ANY | OF_TABLE, 0},
-    [INJECT_INPUT] = {"jt_inject_input", 26, OF_ANY | N(JT_BAD_TIME) | N(JT_NO_MESSAGE_ROOM), 0},
+    [INTAKE] = {"jt_intake", 5, N(JT_OK) | OF_TABLE, 3},
+    [POST] = {"jt_post", 7, OF_ANY | OF_TABLE, 0},
+    [PUT] = {"jt_put", 6, OF_ANY | OF_TABLE, 0},
+    [INJECT_INPUT] = {"jt_inject_input", 24, OF_ANY | N(JT_BAD_TIME) | N(JT_NO_MESSAGE_ROOM), 0},
     [STEP] = {"jt_step", 10, OF_ANY | OF_RUN, 3},
     [STEP_N] = {"jt_step_n", 13, OF_ANY | OF_RUN, 3},
     [STEP_UNTIL] = {"jt_step_until", 11, OF_ANY | OF_RUN, 3},
@@ -70,7 +71,7 @@ static int is_run(enum kind kind) {
 }
 
 static int takes_table(enum kind kind) {
-    return kind == POST || kind == PUT;
+    return kind == INTAKE || kind == POST || kind == PUT;
 }
 
 static int takes_rows(enum kind kind) {
@@ -78,7 +79,7 @@ static int takes_rows(enum kind kind) {
 }
 
 static int only_asks(enum kind kind) {
-    return kind == GET_STATUS || kind == GET_MESSAGES || kind == GET_GLOBAL_TIME;
+    return kind == INTAKE || kind == GET_STATUS || kind == GET_MESSAGES || kind == GET_GLOBAL_TIME;
 }
 
 static void lend(const struct given *g) {
@@ -108,8 +109,11 @@ static uint32_t invoke_run(const struct given *g) {
                          report);
 }
 
-static uint32_t invoke_post(const struct given *g) {
+static uint32_t invoke_table(const struct given *g) {
     const struct table *t = g->table;
+    if (g->kind == INTAKE)
+        return jt_intake(lent_models.pointer, t->models.len, lent_connectors.pointer, t->connectors.len,
+                         lent_couplings.pointer, t->couplings.len, lent_answer.words);
     if (g->kind == POST)
         return jt_post(lent_models.pointer, t->models.len, lent_connectors.pointer, t->connectors.len, lent_couplings.pointer,
                        t->couplings.len, lent_state.pointer, g->state_len);
@@ -120,9 +124,10 @@ static uint32_t invoke_post(const struct given *g) {
 static uint32_t invoke(const struct given *g) {
     uint64_t *state = lent_state.pointer;
     switch (g->kind) {
+    case INTAKE:
     case POST:
     case PUT:
-        return invoke_post(g);
+        return invoke_table(g);
     case INJECT_INPUT:
         return jt_inject_input(state, g->state_len, g->source_id, g->source_port, g->target_id, g->target_port,
                                of_bits(g->time), g->content);

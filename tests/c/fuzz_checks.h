@@ -14,7 +14,7 @@ static size_t top_of(const uint64_t *state, uint64_t id) {
 }
 
 static uint32_t wanted_of_table(const struct given *g) {
-    if (g->state_len < table_needs(g->table))
+    if (g->kind != INTAKE && g->state_len < table_needs(g->table))
         return JT_BAD_STATE;
     if (table_needs(g->table) == 0)
         return JT_TOO_LARGE;
@@ -23,7 +23,7 @@ static uint32_t wanted_of_table(const struct given *g) {
 
 /* The number that can be told from the words alone, or UNKNOWN: then it is neither 1 nor 20. */
 static uint32_t wanted(const struct given *g) {
-    if (g->kind == POST)
+    if (g->kind == INTAKE || g->kind == POST)
         return wanted_of_table(g);
     if (!g->sound)
         return JT_BAD_STATE;
@@ -195,6 +195,29 @@ static void check_done(const struct given *g) {
     }
 }
 
+/* ---- what intake reports, refused or not */
+/* How many rows a part has, one that is cut short among them. */
+static size_t rows_of_part(const struct table *t, uint64_t part) {
+    if (part == JT_MODELS)
+        return rows_of(t->models.len, JT_MODEL_WORDS);
+    if (part == JT_CONNECTORS)
+        return rows_of(t->connectors.len, JT_CONNECTOR_WORDS);
+    return rows_of(t->couplings.len, JT_COUPLING_WORDS);
+}
+
+static void check_intake(const struct given *g, uint32_t number) {
+    const uint64_t *report = lent_answer.words;
+    const struct slice *models = &g->table->models;
+    if (number == JT_BAD_ROW)
+        CHECK_NUMBER(JT_MODELS, report[0]);
+    else if (number == JT_BAD_COUPLING)
+        CHECK(report[0] == JT_CONNECTORS || report[0] == JT_COUPLINGS);
+    else
+        CHECK(report[0] == JT_NOWHERE && report[1] == 0);
+    CHECK(report[0] == JT_NOWHERE || report[1] < rows_of_part(g->table, report[0]));
+    CHECK_NUMBER(number == JT_OK ? omitting(models->words, models->len) : 0, report[2]);
+}
+
 /* ---- what a run leaves */
 /* No processor holds more than its capacity, which is 32 where it is omitted. */
 static void check_capacities(const uint64_t *state) {
@@ -274,6 +297,8 @@ static void check_call(const struct given *g, uint32_t number) {
         check_table(g->table);
     if (is_run(g->kind))
         check_run(g, number);
+    else if (g->kind == INTAKE)
+        check_intake(g, number);
     else if (number != JT_OK)
         check_refused(g);
     else
