@@ -32,7 +32,7 @@ static size_t services_len;
 
 /* What the call left, while another is made to compare. */
 static struct {
-    uint64_t state[STATE_ROOM], rows[ROWS_ROOM], answer[3];
+    uint64_t state[STATE_ROOM], rows[ROWS_ROOM], models[TABLE_ROOM], answer[3];
     uint32_t number;
 } kept;
 
@@ -40,6 +40,7 @@ static struct {
 static uint64_t asked_calls, made, checking_calls, rounds, answers[KINDS][MOST_NUMBER + 1];
 static uint64_t long_runs, ended_runs; /* asked for more than MOST_STEPS; those of them that ended before, by themselves */
 static uint64_t other_states, other_sound; /* changed, stuffed or junk; those of them that hold a simulation */
+static uint64_t written_rows, written_inside; /* by jt_write_out_capacity; those of them that stood inside a state */
 
 /* How deep the states of the rounds came: the deepest, and how many came so far and farther. */
 static struct depth {
@@ -75,7 +76,7 @@ static void tell_kind(enum kind kind) {
     uint64_t total = 0;
     for (size_t number = 0; number <= MOST_NUMBER; number++)
         total += answers[kind][number];
-    printf("%-20s %9" PRIu64, kinds[kind].name, total);
+    printf("%-21s %9" PRIu64, kinds[kind].name, total);
     for (size_t number = 0; number <= MOST_NUMBER; number++)
         if (answers[kind][number] > 0)
             printf("  %zu: %" PRIu64, number, answers[kind][number]);
@@ -87,7 +88,7 @@ static void tell_number(size_t number) {
     for (size_t kind = 0; kind < KINDS; kind++)
         total += answers[kind][number];
     if (total > 0)
-        printf("answered %-2zu %17" PRIu64 "\n", number, total);
+        printf("answered %-2zu %19" PRIu64 "\n", number, total);
 }
 
 static void tell_depth(const struct depth *d) {
@@ -106,6 +107,8 @@ static void tell_all(void) {
         tell_depth(&depths[i]);
     printf("%" PRIu64 " times a state changed, stuffed or junk; %" PRIu64 " of these held a simulation\n", other_states,
            other_sound);
+    printf("%" PRIu64 " rows had their capacity written out; %" PRIu64 " of these inside a state\n", written_rows,
+           written_inside);
     printf("%" PRIu64 " runs of more than %d steps; %" PRIu64 " of these ended before, by themselves\n", long_runs, MOST_STEPS,
            ended_runs);
     printf("%" PRIu64 " more calls to compare with, %ld checks\n", checking_calls, checks);
@@ -190,6 +193,8 @@ static void keep(const struct given *g, uint32_t number) {
     if (g->state_len > 0)
         memcpy(kept.state, lent_state.words, g->state_len * sizeof(uint64_t));
     memcpy(kept.answer, lent_answer.words, lent_answer.len * sizeof(uint64_t));
+    if (g->kind == WRITE_OUT && !g->inside && lent_models.len > 0)
+        memcpy(kept.models, lent_models.words, lent_models.len * sizeof(uint64_t));
     if (takes_rows(g->kind) && g->rows_len > 0)
         memcpy(kept.rows, lent_rows.words, g->rows_len * sizeof(uint64_t));
 }
@@ -203,6 +208,8 @@ static void check_same_rows(const struct given *g) {
 static void check_same_left(const struct given *g) {
     CHECK(same(kept.state, lent_state.words, g->state_len));
     CHECK(same(kept.answer, lent_answer.words, lent_answer.len));
+    if (g->kind == WRITE_OUT && !g->inside)
+        CHECK(same(kept.models, lent_models.words, lent_models.len));
     check_same_rows(g);
 }
 
@@ -386,11 +393,81 @@ static void compare_intake(const struct given *g) {
         check_first_bad(g);
 }
 
+/* ---- capacities written out: once and for all, and no table or state is any worse for it */
+/* A second time changes nothing and counts no row. */
+static void check_written_again(const struct given *g) {
+    struct given again = *g;
+    if (g->inside) {
+        memcpy(compared, kept.state, g->state_len * sizeof(uint64_t));
+        again.state = compared;
+    } else {
+        copy_slice(&compared_table.models, &g->table->models);
+        memcpy(compared_table.models.words, kept.models, g->table->models.len * sizeof(uint64_t));
+        again.table = &compared_table;
+    }
+    checking_calls++;
+    make(&again);
+    CHECK_NUMBER(0, lent_answer.words[0]);
+    if (g->inside)
+        CHECK(same(kept.state, lent_state.words, g->state_len));
+    else
+        CHECK(same(kept.models, lent_models.words, g->table->models.len));
+}
+
+/* Intake says the same of the table after it, but that no row omits the capacity. */
+static void check_written_passes(const struct given *g) {
+    uint64_t before[3];
+    if (g->inside)
+        table_inside(&compared_table, g->state);
+    else
+        copy_table(&compared_table, g->table);
+    uint32_t number = make_intake(&compared_table);
+    memcpy(before, lent_answer.words, sizeof before);
+    CHECK(number != JT_OK || before[2] == kept.answer[0]);
+    memcpy(compared_table.models.words, g->inside ? kept.state + 3 : kept.models,
+           compared_table.models.len * sizeof(uint64_t));
+    CHECK_NUMBER(number, make_intake(&compared_table));
+    CHECK(same(before, lent_answer.words, 2));
+    CHECK_NUMBER(0, lent_answer.words[2]);
+}
+
+/* A processor that omits its capacity may hold 32, and 64 once it is written out: so a state that was stored when an omitted
+ * one was 2^64 - 1 is one again. */
+static void check_written_state(const struct given *g) {
+    struct given old = *g;
+    uint64_t held = below(MOST_HELD + 2);
+    size_t i = some_omitting(g->state);
+    if (i == g->state[0])
+        return;
+    memcpy(compared, g->state, g->state_len * sizeof(uint64_t));
+    crowd_row(compared, i, held);
+    CHECK_NUMBER(held <= JT_OMITTED_CAPACITY, is_state(compared, g->state_len));
+    old.state = compared;
+    checking_calls++;
+    make(&old);
+    memcpy(compared, lent_state.words, g->state_len * sizeof(uint64_t));
+    CHECK_NUMBER(held <= MOST_HELD, is_state(compared, g->state_len));
+}
+
+static void compare_written(const struct given *g) {
+    written_rows += kept.answer[0];
+    written_inside += g->inside ? kept.answer[0] : 0;
+    check_written_again(g);
+    stop_in(g);
+    if (!g->inside || g->sound)
+        check_written_passes(g);
+    stop_in(g);
+    if (g->inside && g->sound)
+        check_written_state(g);
+}
+
 static void compare(const struct given *g) {
     if (is_run(g->kind))
         compare_run(g);
     if (g->kind == INTAKE)
         compare_intake(g);
+    if (g->kind == WRITE_OUT)
+        compare_written(g);
     stop_in(g);
     if (one_in(8))
         check_twice(g);
@@ -461,6 +538,19 @@ static void choose_table(struct given *g) {
         change_table(&other);
     } else if (pick >= 17)
         junk_table(&other);
+}
+
+/* A table's models, any words, or the models inside a state: also of one that holds no simulation, where it is long enough. */
+static void choose_written(struct given *g) {
+    choose_table(g);
+    if (one_in(2) && g->state_len >= 3 && g->state[0] <= MOST_MODELS && g->state_len >= 3 + JT_MODEL_WORDS * g->state[0])
+        g->inside = 1;
+    else if (one_in(2)) {
+        if (g->table != &other)
+            copy_table(&other, g->table);
+        loose_models(&other);
+        g->table = &other;
+    }
 }
 
 static void choose_message(struct given *g) {
@@ -542,6 +632,8 @@ static void choose(struct given *g) {
     g->rows_len = some_rows_len();
     if (takes_table(g->kind))
         choose_table(g);
+    if (g->kind == WRITE_OUT)
+        choose_written(g);
     if (is_run(g->kind)) {
         choose_run(g);
         bound_steps(g);
@@ -549,12 +641,22 @@ static void choose(struct given *g) {
 }
 
 /* ---- the chain */
-/* A new state begins anew, so it takes the chain's place seldom. */
+/* Whether a call left a state that another can be handed. */
+static int leaves_state(const struct given *g, uint32_t number) {
+    if (is_run(g->kind) && kept.answer[0] > 0)
+        return 1;
+    return number == JT_OK && !only_asks(g->kind) && (g->kind != WRITE_OUT || (g->inside && g->sound));
+}
+
+/* A new state begins anew, so it takes the chain's place seldom. So does one with its capacities written out: no processor of
+ * the round would omit it any more. */
 static int goes_on(const struct given *g) {
     if (g->state_len != chain.len)
         return 0;
     if (g->kind == POST)
         return one_in(32);
+    if (g->kind == WRITE_OUT)
+        return one_in(8);
     if (g->kind == PUT)
         return one_in(6);
     if (g->kind == RESET || g->kind == RESET_MESSAGES)
@@ -616,7 +718,7 @@ static void one_call(void) {
         number = make(&g);
         keep(&g, number);
         compare(&g);
-        if (!only_asks(g.kind) && (number == JT_OK || (is_run(g.kind) && kept.answer[0] > 0)))
+        if (leaves_state(&g, number))
             go_on(&g);
         find_cure(&g, number);
     }

@@ -9,7 +9,7 @@
 enum { ROWS_ROOM = 6 * 2500, SERVICES_ROOM = 1000 };
 
 enum kind {
-    STATE_WORDS, INTAKE, POST, PUT, INJECT_INPUT, STEP, STEP_N, STEP_UNTIL, RESET, RESET_MESSAGES, RESET_GLOBAL_TIME,
+    STATE_WORDS, INTAKE, WRITE_OUT, POST, PUT, INJECT_INPUT, STEP, STEP_N, STEP_UNTIL, RESET, RESET_MESSAGES, RESET_GLOBAL_TIME,
     GET_STATUS, GET_MESSAGES, GET_GLOBAL_TIME, KINDS
 };
 
@@ -30,17 +30,18 @@ static const struct {
 } kinds[KINDS] = {
     [STATE_WORDS] = {"jt_state_words", 3, N(JT_OK), 0},
     [INTAKE] = {"jt_intake", 5, N(JT_OK) | OF_TABLE, 3},
+    [WRITE_OUT] = {"jt_write_out_capacity", 4, N(JT_OK), 1},
     [POST] = {"jt_post", 7, OF_ANY | OF_TABLE, 0},
     [PUT] = {"jt_put", 6, OF_ANY | OF_TABLE, 0},
-    [INJECT_INPUT] = {"jt_inject_input", 24, OF_ANY | N(JT_BAD_TIME) | N(JT_NO_MESSAGE_ROOM), 0},
+    [INJECT_INPUT] = {"jt_inject_input", 22, OF_ANY | N(JT_BAD_TIME) | N(JT_NO_MESSAGE_ROOM), 0},
     [STEP] = {"jt_step", 10, OF_ANY | OF_RUN, 3},
     [STEP_N] = {"jt_step_n", 13, OF_ANY | OF_RUN, 3},
     [STEP_UNTIL] = {"jt_step_until", 11, OF_ANY | OF_RUN, 3},
     [RESET] = {"jt_reset", 2, OF_ANY, 0},
     [RESET_MESSAGES] = {"jt_reset_messages", 2, OF_ANY, 0},
     [RESET_GLOBAL_TIME] = {"jt_reset_global_time", 2, OF_ANY, 0},
-    [GET_STATUS] = {"jt_get_status", 6, OF_ANY | N(JT_MODEL_NOT_FOUND), 2},
-    [GET_MESSAGES] = {"jt_get_messages", 5, OF_ANY | N(JT_NO_OUT_ROOM), 1},
+    [GET_STATUS] = {"jt_get_status", 5, OF_ANY | N(JT_MODEL_NOT_FOUND), 2},
+    [GET_MESSAGES] = {"jt_get_messages", 4, OF_ANY | N(JT_NO_OUT_ROOM), 1},
     [GET_GLOBAL_TIME] = {"jt_get_global_time", 4, OF_ANY, 1},
 };
 
@@ -51,6 +52,7 @@ struct given {
     size_t state_len;
     int sound; /* it holds a simulation */
     const struct table *table;
+    int inside; /* what is written out is the models inside the state, and not the table's */
     uint16_t source_id, source_port, target_id, target_port;
     uint32_t content;
     uint64_t time;  /* the bits of an injected time, or of `until` */
@@ -90,6 +92,8 @@ static void lend(const struct given *g) {
         lent_fill(&lent_connectors, g->table->connectors.words, g->table->connectors.len);
         lent_fill(&lent_couplings, g->table->couplings.words, g->table->couplings.len);
     }
+    if (g->kind == WRITE_OUT && !g->inside)
+        lent_fill(&lent_models, g->table->models.words, g->table->models.len);
     if (is_run(g->kind))
         lent_fill(&lent_services, g->services, g->services_len);
     if (takes_rows(g->kind))
@@ -107,6 +111,12 @@ static uint32_t invoke_run(const struct given *g) {
         return jt_step_n(state, g->state_len, times, g->services_len, g->steps, rows, g->rows_len, report);
     return jt_step_until(state, g->state_len, times, g->services_len, of_bits(g->time), (uint32_t)g->steps, rows, g->rows_len,
                          report);
+}
+
+static uint32_t invoke_write_out(const struct given *g) {
+    if (g->inside)
+        return jt_write_out_capacity(lent_state.pointer + 3, (size_t)(JT_MODEL_WORDS * g->state[0]), lent_answer.words);
+    return jt_write_out_capacity(lent_models.pointer, g->table->models.len, lent_answer.words);
 }
 
 static uint32_t invoke_table(const struct given *g) {
@@ -128,6 +138,8 @@ static uint32_t invoke(const struct given *g) {
     case POST:
     case PUT:
         return invoke_table(g);
+    case WRITE_OUT:
+        return invoke_write_out(g);
     case INJECT_INPUT:
         return jt_inject_input(state, g->state_len, g->source_id, g->source_port, g->target_id, g->target_port,
                                of_bits(g->time), g->content);

@@ -25,6 +25,8 @@ static uint32_t wanted_of_table(const struct given *g) {
 static uint32_t wanted(const struct given *g) {
     if (g->kind == INTAKE || g->kind == POST)
         return wanted_of_table(g);
+    if (g->kind == WRITE_OUT)
+        return JT_OK;
     if (!g->sound)
         return JT_BAD_STATE;
     switch (g->kind) {
@@ -50,8 +52,10 @@ static uint32_t wanted(const struct given *g) {
 static void check_inputs(const struct given *g) {
     lent_check(&lent_state);
     lent_check(&lent_answer);
-    if (only_asks(g->kind))
+    if (only_asks(g->kind) || (g->kind == WRITE_OUT && !g->inside))
         lent_check_same(&lent_state, g->state);
+    if (g->kind == WRITE_OUT && !g->inside)
+        lent_check(&lent_models);
     if (is_run(g->kind)) {
         lent_check(&lent_services);
         lent_check_same(&lent_services, g->services);
@@ -172,8 +176,24 @@ static void check_messages(const struct given *g) {
     CHECK(same(lent_rows.words + words, junk + words, g->rows_len - words));
 }
 
+/* Just the rows that omit the capacity are written, and so many are counted; of a state, nothing but its models. */
+static void check_written_out(const struct given *g) {
+    static uint64_t wanted_words[STATE_ROOM];
+    const struct lent *left = g->inside ? &lent_state : &lent_models;
+    uint64_t *models = g->inside ? wanted_words + 3 : wanted_words;
+    size_t len = g->inside ? (size_t)(JT_MODEL_WORDS * g->state[0]) : g->table->models.len;
+    if (left->len > 0)
+        memcpy(wanted_words, g->inside ? g->state : g->table->models.words, left->len * sizeof(uint64_t));
+    CHECK_NUMBER(omitting(models, len), lent_answer.words[0]);
+    give_capacity(models, len, UINT64_MAX);
+    CHECK(same(wanted_words, left->words, left->len));
+}
+
 static void check_done(const struct given *g) {
     switch (g->kind) {
+    case WRITE_OUT:
+        check_written_out(g);
+        break;
     case POST:
     case PUT:
         check_laid(g);

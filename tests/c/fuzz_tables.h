@@ -314,4 +314,20 @@ static void junk_table(struct table *t) {
     junk_slice(&t->couplings, JT_COUPLING_WORDS);
 }
 
+/* Any words of any length, but most rows near a processor's that omits its capacity. */
+static void loose_models(struct table *t) {
+    struct slice *s = &t->models;
+    uint64_t pick = below(3);
+    t->good = 0;
+    s->len = (size_t)below(one_in(4) ? 30 : 700);
+    for (size_t i = 0; i < s->len; i++)
+        s->words[i] = pick == 0 ? random_word() : pick == 1 ? any_word() : below(10);
+    if (one_in(4))
+        return;
+    for (size_t row = 0; row < s->len; row += JT_MODEL_WORDS) {
+        s->words[row + 1] = one_in(4) ? changed_word(PROCESSOR) : PROCESSOR;
+        s->words[row + 2] = one_in(4) ? changed_word(below(8)) : below(9);
+    }
+}
+
 #endif
