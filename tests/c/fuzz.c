@@ -25,13 +25,14 @@ static struct {
 } chain;
 
 static uint64_t tried[STATE_ROOM]; /* the chain's state with something changed */
-static struct table first, second, other;
+static uint64_t compared[STATE_ROOM]; /* a state that another call is made on, to compare */
+static struct table first, second, other, compared_table;
 static uint64_t services[SERVICES_ROOM], other_services[SERVICES_ROOM];
 static size_t services_len;
 
 /* What the call left, while another is made to compare. */
 static struct {
-    uint64_t state[STATE_ROOM], rows[ROWS_ROOM], answer[3];
+    uint64_t state[STATE_ROOM], rows[ROWS_ROOM], models[TABLE_ROOM], answer[3];
     uint32_t number;
 } kept;
 
@@ -39,6 +40,7 @@ static struct {
 static uint64_t asked_calls, made, checking_calls, rounds, answers[KINDS][MOST_NUMBER + 1];
 static uint64_t long_runs, ended_runs; /* asked for more than MOST_STEPS; those of them that ended before, by themselves */
 static uint64_t other_states, other_sound; /* changed, stuffed or junk; those of them that hold a simulation */
+static uint64_t written_rows, written_inside; /* by jt_write_out_capacity; those of them that stood inside a state */
 
 /* How deep the states of the rounds came: the deepest, and how many came so far and farther. */
 static struct depth {
@@ -74,7 +76,7 @@ static void tell_kind(enum kind kind) {
     uint64_t total = 0;
     for (size_t number = 0; number <= MOST_NUMBER; number++)
         total += answers[kind][number];
-    printf("%-20s %9" PRIu64, kinds[kind].name, total);
+    printf("%-21s %9" PRIu64, kinds[kind].name, total);
     for (size_t number = 0; number <= MOST_NUMBER; number++)
         if (answers[kind][number] > 0)
             printf("  %zu: %" PRIu64, number, answers[kind][number]);
@@ -86,7 +88,7 @@ static void tell_number(size_t number) {
     for (size_t kind = 0; kind < KINDS; kind++)
         total += answers[kind][number];
     if (total > 0)
-        printf("answered %-2zu %17" PRIu64 "\n", number, total);
+        printf("answered %-2zu %19" PRIu64 "\n", number, total);
 }
 
 static void tell_depth(const struct depth *d) {
@@ -105,6 +107,8 @@ static void tell_all(void) {
         tell_depth(&depths[i]);
     printf("%" PRIu64 " times a state changed, stuffed or junk; %" PRIu64 " of these held a simulation\n", other_states,
            other_sound);
+    printf("%" PRIu64 " rows had their capacity written out; %" PRIu64 " of these inside a state\n", written_rows,
+           written_inside);
     printf("%" PRIu64 " runs of more than %d steps; %" PRIu64 " of these ended before, by themselves\n", long_runs, MOST_STEPS,
            ended_runs);
     printf("%" PRIu64 " more calls to compare with, %ld checks\n", checking_calls, checks);
@@ -152,6 +156,12 @@ static void stop_if_wrong(void) {
     exit(1);
 }
 
+/* What was found by other calls is told of the one that they are compared with. */
+static void stop_in(const struct given *g) {
+    making = g->kind;
+    stop_if_wrong();
+}
+
 /* ---- a call made and checked */
 static uint32_t make(const struct given *g) {
     making = g->kind;
@@ -162,7 +172,7 @@ static uint32_t make(const struct given *g) {
     return number;
 }
 
-/* Whether a state is one: 20 comes first, in every call, so all calls must say the same as this one. */
+/* Whether a state is one: 20 comes first, in every call on a state, so all of them must say the same as this one. */
 static int is_state(const uint64_t *state, size_t len) {
     making = GET_GLOBAL_TIME;
     checking_calls++;
@@ -183,6 +193,8 @@ static void keep(const struct given *g, uint32_t number) {
     if (g->state_len > 0)
         memcpy(kept.state, lent_state.words, g->state_len * sizeof(uint64_t));
     memcpy(kept.answer, lent_answer.words, lent_answer.len * sizeof(uint64_t));
+    if (g->kind == WRITE_OUT && !g->inside && lent_models.len > 0)
+        memcpy(kept.models, lent_models.words, lent_models.len * sizeof(uint64_t));
     if (takes_rows(g->kind) && g->rows_len > 0)
         memcpy(kept.rows, lent_rows.words, g->rows_len * sizeof(uint64_t));
 }
@@ -196,6 +208,8 @@ static void check_same_rows(const struct given *g) {
 static void check_same_left(const struct given *g) {
     CHECK(same(kept.state, lent_state.words, g->state_len));
     CHECK(same(kept.answer, lent_answer.words, lent_answer.len));
+    if (g->kind == WRITE_OUT && !g->inside)
+        CHECK(same(kept.models, lent_models.words, lent_models.len));
     check_same_rows(g);
 }
 
@@ -295,9 +309,28 @@ static void check_cut(const struct given *g) {
     random_place = place;
 }
 
+/* With 32 written out where the capacity is omitted, a run ends the same in all but these rows. */
+static void check_omitted_is_32(const struct given *g) {
+    struct given written = *g;
+    size_t tail = tail_at(g->state);
+    size_t models_len = (size_t)(JT_MODEL_WORDS * g->state[0]);
+    if (omitting(g->state + 3, models_len) == 0)
+        return;
+    memcpy(compared, g->state, g->state_len * sizeof(uint64_t));
+    give_capacity(compared + 3, models_len, JT_OMITTED_CAPACITY);
+    written.state = compared;
+    checking_calls++;
+    CHECK_NUMBER(kept.number, make(&written));
+    CHECK(same(kept.answer, lent_answer.words, 3));
+    CHECK(same(kept.state + tail, lent_state.words + tail, g->state_len - tail));
+    check_same_rows(g);
+}
+
 static void compare_run(const struct given *g) {
     if (g->sound && (g->kind != STEP_UNTIL || is_time(g->time)))
         check_cut(g);
+    if (g->sound && one_in(4))
+        check_omitted_is_32(g);
     if (kept.answer[2] == JT_END_REFUSED && kept.answer[0] > 0)
         check_kept_steps(g);
     if (kept.answer[2] == JT_END_REACHED && one_in(4))
@@ -308,9 +341,134 @@ static void compare_run(const struct given *g) {
         check_exact_services(g);
 }
 
+/* ---- intake: it answers as jt_post does, and the first bad row is the first */
+/* What intake says of another table. */
+static uint32_t make_intake(const struct table *t) {
+    struct given asked;
+    memset(&asked, 0, sizeof asked);
+    asked.kind = INTAKE;
+    asked.state = junk;
+    asked.table = t;
+    checking_calls++;
+    return make(&asked);
+}
+
+static void check_as_post(const struct given *g) {
+    struct given posted = *g;
+    posted.kind = POST;
+    posted.state = junk;
+    posted.state_len = table_needs(g->table);
+    checking_calls++;
+    CHECK_NUMBER(kept.number, make(&posted));
+}
+
+static void cut_slice(struct slice *s, size_t len) {
+    s->len = len < s->len ? len : s->len;
+}
+
+/* The table up to so many rows of the part that the first bad one stands in. */
+static void cut_table(const struct table *t, uint64_t part, size_t rows) {
+    copy_table(&compared_table, t);
+    if (part == JT_MODELS)
+        cut_slice(&compared_table.models, JT_MODEL_WORDS * rows);
+    if (part <= JT_CONNECTORS)
+        cut_slice(&compared_table.connectors, part == JT_CONNECTORS ? JT_CONNECTOR_WORDS * rows : 0);
+    cut_slice(&compared_table.couplings, part == JT_COUPLINGS ? JT_COUPLING_WORDS * rows : 0);
+}
+
+/* The rows before the first bad one pass; with it they do not, whatever stands behind it. */
+static void check_first_bad(const struct given *g) {
+    size_t row = (size_t)kept.answer[1];
+    cut_table(g->table, kept.answer[0], row);
+    compared_table.good = 1;
+    CHECK_NUMBER(JT_OK, make_intake(&compared_table));
+    cut_table(g->table, kept.answer[0], row + 1);
+    CHECK_NUMBER(kept.number, make_intake(&compared_table));
+    CHECK(same(kept.answer, lent_answer.words, 3));
+}
+
+static void compare_intake(const struct given *g) {
+    check_as_post(g);
+    if (kept.answer[0] != JT_NOWHERE)
+        check_first_bad(g);
+}
+
+/* ---- capacities written out: once and for all, and no table or state is any worse for it */
+/* A second time changes nothing and counts no row. */
+static void check_written_again(const struct given *g) {
+    struct given again = *g;
+    if (g->inside) {
+        memcpy(compared, kept.state, g->state_len * sizeof(uint64_t));
+        again.state = compared;
+    } else {
+        copy_slice(&compared_table.models, &g->table->models);
+        memcpy(compared_table.models.words, kept.models, g->table->models.len * sizeof(uint64_t));
+        again.table = &compared_table;
+    }
+    checking_calls++;
+    make(&again);
+    CHECK_NUMBER(0, lent_answer.words[0]);
+    if (g->inside)
+        CHECK(same(kept.state, lent_state.words, g->state_len));
+    else
+        CHECK(same(kept.models, lent_models.words, g->table->models.len));
+}
+
+/* Intake says the same of the table after it, but that no row omits the capacity. */
+static void check_written_passes(const struct given *g) {
+    uint64_t before[3];
+    if (g->inside)
+        table_inside(&compared_table, g->state);
+    else
+        copy_table(&compared_table, g->table);
+    uint32_t number = make_intake(&compared_table);
+    memcpy(before, lent_answer.words, sizeof before);
+    CHECK(number != JT_OK || before[2] == kept.answer[0]);
+    memcpy(compared_table.models.words, g->inside ? kept.state + 3 : kept.models,
+           compared_table.models.len * sizeof(uint64_t));
+    CHECK_NUMBER(number, make_intake(&compared_table));
+    CHECK(same(before, lent_answer.words, 2));
+    CHECK_NUMBER(0, lent_answer.words[2]);
+}
+
+/* A processor that omits its capacity may hold 32, and 64 once it is written out: so a state that was stored when an omitted
+ * one was 2^64 - 1 is one again. */
+static void check_written_state(const struct given *g) {
+    struct given old = *g;
+    uint64_t held = below(MOST_HELD + 2);
+    size_t i = some_omitting(g->state);
+    if (i == g->state[0])
+        return;
+    memcpy(compared, g->state, g->state_len * sizeof(uint64_t));
+    crowd_row(compared, i, held);
+    CHECK_NUMBER(held <= JT_OMITTED_CAPACITY, is_state(compared, g->state_len));
+    old.state = compared;
+    checking_calls++;
+    make(&old);
+    memcpy(compared, lent_state.words, g->state_len * sizeof(uint64_t));
+    CHECK_NUMBER(held <= MOST_HELD, is_state(compared, g->state_len));
+}
+
+static void compare_written(const struct given *g) {
+    written_rows += kept.answer[0];
+    written_inside += g->inside ? kept.answer[0] : 0;
+    check_written_again(g);
+    stop_in(g);
+    if (!g->inside || g->sound)
+        check_written_passes(g);
+    stop_in(g);
+    if (g->inside && g->sound)
+        check_written_state(g);
+}
+
 static void compare(const struct given *g) {
     if (is_run(g->kind))
         compare_run(g);
+    if (g->kind == INTAKE)
+        compare_intake(g);
+    if (g->kind == WRITE_OUT)
+        compare_written(g);
+    stop_in(g);
     if (one_in(8))
         check_twice(g);
     stop_if_wrong();
@@ -382,13 +540,27 @@ static void choose_table(struct given *g) {
         junk_table(&other);
 }
 
+/* A table's models, any words, or the models inside a state: also of one that holds no simulation, where it is long enough. */
+static void choose_written(struct given *g) {
+    choose_table(g);
+    if (one_in(2) && g->state_len >= 3 && g->state[0] <= MOST_MODELS && g->state_len >= 3 + JT_MODEL_WORDS * g->state[0])
+        g->inside = 1;
+    else if (one_in(2)) {
+        if (g->table != &other)
+            copy_table(&other, g->table);
+        loose_models(&other);
+        g->table = &other;
+    }
+}
+
 static void choose_message(struct given *g) {
     size_t row = chain.words[0] == 0 ? 0 : some_row(chain.words);
     int known = chain.words[0] > 0 && !one_in(32);
     g->source_id = (uint16_t)below(4);
     g->source_port = (uint16_t)(one_in(16) ? random_word() : below(4));
     g->target_id = (uint16_t)(known ? id_of(chain.words, row) : random_word());
-    g->target_port = (uint16_t)(one_in(64) ? random_word() : known && kind_of(chain.words, row) == STOPWATCH ? 1 + below(3) : 1);
+    g->target_port =
+        (uint16_t)(one_in(64) ? random_word() : known && kind_of(chain.words, row) == STOPWATCH ? 1 + below(3) : 1);
     g->content = (uint32_t)(one_in(8) ? any_word() : below(20));
     g->time = any_time();
 }
@@ -460,6 +632,8 @@ static void choose(struct given *g) {
     g->rows_len = some_rows_len();
     if (takes_table(g->kind))
         choose_table(g);
+    if (g->kind == WRITE_OUT)
+        choose_written(g);
     if (is_run(g->kind)) {
         choose_run(g);
         bound_steps(g);
@@ -467,12 +641,22 @@ static void choose(struct given *g) {
 }
 
 /* ---- the chain */
-/* A new state begins anew, so it takes the chain's place seldom. */
+/* Whether a call left a state that another can be handed. */
+static int leaves_state(const struct given *g, uint32_t number) {
+    if (is_run(g->kind) && kept.answer[0] > 0)
+        return 1;
+    return number == JT_OK && !only_asks(g->kind) && (g->kind != WRITE_OUT || (g->inside && g->sound));
+}
+
+/* A new state begins anew, so it takes the chain's place seldom. So does one with its capacities written out: no processor of
+ * the round would omit it any more. */
 static int goes_on(const struct given *g) {
     if (g->state_len != chain.len)
         return 0;
     if (g->kind == POST)
         return one_in(32);
+    if (g->kind == WRITE_OUT)
+        return one_in(8);
     if (g->kind == PUT)
         return one_in(6);
     if (g->kind == RESET || g->kind == RESET_MESSAGES)
@@ -534,7 +718,7 @@ static void one_call(void) {
         number = make(&g);
         keep(&g, number);
         compare(&g);
-        if (!only_asks(g.kind) && (number == JT_OK || (is_run(g.kind) && kept.answer[0] > 0)))
+        if (leaves_state(&g, number))
             go_on(&g);
         find_cure(&g, number);
     }

@@ -9,7 +9,7 @@
 enum { ROWS_ROOM = 6 * 2500, SERVICES_ROOM = 1000 };
 
 enum kind {
-    STATE_WORDS, POST, PUT, INJECT_INPUT, STEP, STEP_N, STEP_UNTIL, RESET, RESET_MESSAGES, RESET_GLOBAL_TIME,
+    STATE_WORDS, INTAKE, WRITE_OUT, POST, PUT, INJECT_INPUT, STEP, STEP_N, STEP_UNTIL, RESET, RESET_MESSAGES, RESET_GLOBAL_TIME,
     GET_STATUS, GET_MESSAGES, GET_GLOBAL_TIME, KINDS
 };
 
@@ -29,17 +29,19 @@ static const struct {
     size_t answer_len; /* words of report, count or time */
 } kinds[KINDS] = {
     [STATE_WORDS] = {"jt_state_words", 3, N(JT_OK), 0},
-    [POST] = {"jt_post", 9, OF_ANY | OF_TABLE, 0},
-    [PUT] = {"jt_put", 7, OF_ANY | OF_TABLE, 0},
-    [INJECT_INPUT] = {"jt_inject_input", 26, OF_ANY | N(JT_BAD_TIME) | N(JT_NO_MESSAGE_ROOM), 0},
+    [INTAKE] = {"jt_intake", 5, N(JT_OK) | OF_TABLE, 3},
+    [WRITE_OUT] = {"jt_write_out_capacity", 4, N(JT_OK), 1},
+    [POST] = {"jt_post", 7, OF_ANY | OF_TABLE, 0},
+    [PUT] = {"jt_put", 6, OF_ANY | OF_TABLE, 0},
+    [INJECT_INPUT] = {"jt_inject_input", 22, OF_ANY | N(JT_BAD_TIME) | N(JT_NO_MESSAGE_ROOM), 0},
     [STEP] = {"jt_step", 10, OF_ANY | OF_RUN, 3},
     [STEP_N] = {"jt_step_n", 13, OF_ANY | OF_RUN, 3},
     [STEP_UNTIL] = {"jt_step_until", 11, OF_ANY | OF_RUN, 3},
     [RESET] = {"jt_reset", 2, OF_ANY, 0},
     [RESET_MESSAGES] = {"jt_reset_messages", 2, OF_ANY, 0},
     [RESET_GLOBAL_TIME] = {"jt_reset_global_time", 2, OF_ANY, 0},
-    [GET_STATUS] = {"jt_get_status", 6, OF_ANY | N(JT_MODEL_NOT_FOUND), 2},
-    [GET_MESSAGES] = {"jt_get_messages", 5, OF_ANY | N(JT_NO_OUT_ROOM), 1},
+    [GET_STATUS] = {"jt_get_status", 5, OF_ANY | N(JT_MODEL_NOT_FOUND), 2},
+    [GET_MESSAGES] = {"jt_get_messages", 4, OF_ANY | N(JT_NO_OUT_ROOM), 1},
     [GET_GLOBAL_TIME] = {"jt_get_global_time", 4, OF_ANY, 1},
 };
 
@@ -50,6 +52,7 @@ struct given {
     size_t state_len;
     int sound; /* it holds a simulation */
     const struct table *table;
+    int inside; /* what is written out is the models inside the state, and not the table's */
     uint16_t source_id, source_port, target_id, target_port;
     uint32_t content;
     uint64_t time;  /* the bits of an injected time, or of `until` */
@@ -70,7 +73,7 @@ static int is_run(enum kind kind) {
 }
 
 static int takes_table(enum kind kind) {
-    return kind == POST || kind == PUT;
+    return kind == INTAKE || kind == POST || kind == PUT;
 }
 
 static int takes_rows(enum kind kind) {
@@ -78,7 +81,7 @@ static int takes_rows(enum kind kind) {
 }
 
 static int only_asks(enum kind kind) {
-    return kind == GET_STATUS || kind == GET_MESSAGES || kind == GET_GLOBAL_TIME;
+    return kind == INTAKE || kind == GET_STATUS || kind == GET_MESSAGES || kind == GET_GLOBAL_TIME;
 }
 
 static void lend(const struct given *g) {
@@ -89,6 +92,8 @@ static void lend(const struct given *g) {
         lent_fill(&lent_connectors, g->table->connectors.words, g->table->connectors.len);
         lent_fill(&lent_couplings, g->table->couplings.words, g->table->couplings.len);
     }
+    if (g->kind == WRITE_OUT && !g->inside)
+        lent_fill(&lent_models, g->table->models.words, g->table->models.len);
     if (is_run(g->kind))
         lent_fill(&lent_services, g->services, g->services_len);
     if (takes_rows(g->kind))
@@ -108,8 +113,17 @@ static uint32_t invoke_run(const struct given *g) {
                          report);
 }
 
-static uint32_t invoke_post(const struct given *g) {
+static uint32_t invoke_write_out(const struct given *g) {
+    if (g->inside)
+        return jt_write_out_capacity(lent_state.pointer + 3, (size_t)(JT_MODEL_WORDS * g->state[0]), lent_answer.words);
+    return jt_write_out_capacity(lent_models.pointer, g->table->models.len, lent_answer.words);
+}
+
+static uint32_t invoke_table(const struct given *g) {
     const struct table *t = g->table;
+    if (g->kind == INTAKE)
+        return jt_intake(lent_models.pointer, t->models.len, lent_connectors.pointer, t->connectors.len,
+                         lent_couplings.pointer, t->couplings.len, lent_answer.words);
     if (g->kind == POST)
         return jt_post(lent_models.pointer, t->models.len, lent_connectors.pointer, t->connectors.len, lent_couplings.pointer,
                        t->couplings.len, lent_state.pointer, g->state_len);
@@ -120,9 +134,12 @@ static uint32_t invoke_post(const struct given *g) {
 static uint32_t invoke(const struct given *g) {
     uint64_t *state = lent_state.pointer;
     switch (g->kind) {
+    case INTAKE:
     case POST:
     case PUT:
-        return invoke_post(g);
+        return invoke_table(g);
+    case WRITE_OUT:
+        return invoke_write_out(g);
     case INJECT_INPUT:
         return jt_inject_input(state, g->state_len, g->source_id, g->source_port, g->target_id, g->target_port,
                                of_bits(g->time), g->content);

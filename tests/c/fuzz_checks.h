@@ -14,7 +14,7 @@ static size_t top_of(const uint64_t *state, uint64_t id) {
 }
 
 static uint32_t wanted_of_table(const struct given *g) {
-    if (g->state_len < table_needs(g->table))
+    if (g->kind != INTAKE && g->state_len < table_needs(g->table))
         return JT_BAD_STATE;
     if (table_needs(g->table) == 0)
         return JT_TOO_LARGE;
@@ -23,8 +23,10 @@ static uint32_t wanted_of_table(const struct given *g) {
 
 /* The number that can be told from the words alone, or UNKNOWN: then it is neither 1 nor 20. */
 static uint32_t wanted(const struct given *g) {
-    if (g->kind == POST)
+    if (g->kind == INTAKE || g->kind == POST)
         return wanted_of_table(g);
+    if (g->kind == WRITE_OUT)
+        return JT_OK;
     if (!g->sound)
         return JT_BAD_STATE;
     switch (g->kind) {
@@ -50,8 +52,10 @@ static uint32_t wanted(const struct given *g) {
 static void check_inputs(const struct given *g) {
     lent_check(&lent_state);
     lent_check(&lent_answer);
-    if (only_asks(g->kind))
+    if (only_asks(g->kind) || (g->kind == WRITE_OUT && !g->inside))
         lent_check_same(&lent_state, g->state);
+    if (g->kind == WRITE_OUT && !g->inside)
+        lent_check(&lent_models);
     if (is_run(g->kind)) {
         lent_check(&lent_services);
         lent_check_same(&lent_services, g->services);
@@ -116,7 +120,8 @@ static void check_laid(const struct given *g) {
 }
 
 static void check_injected(const struct given *g) {
-    const uint64_t message[JT_MESSAGE_WORDS] = {g->source_id, g->source_port, g->target_id, g->target_port, g->time, g->content};
+    const uint64_t message[JT_MESSAGE_WORDS] = {g->source_id,   g->source_port, g->target_id,
+                                                g->target_port, g->time,        g->content};
     size_t tail = tail_at(g->state);
     size_t end = state_end(g->state);
     CHECK(same(lent_state.words, g->state, tail));
@@ -171,8 +176,24 @@ static void check_messages(const struct given *g) {
     CHECK(same(lent_rows.words + words, junk + words, g->rows_len - words));
 }
 
+/* Just the rows that omit the capacity are written, and so many are counted; of a state, nothing but its models. */
+static void check_written_out(const struct given *g) {
+    static uint64_t wanted_words[STATE_ROOM];
+    const struct lent *left = g->inside ? &lent_state : &lent_models;
+    uint64_t *models = g->inside ? wanted_words + 3 : wanted_words;
+    size_t len = g->inside ? (size_t)(JT_MODEL_WORDS * g->state[0]) : g->table->models.len;
+    if (left->len > 0)
+        memcpy(wanted_words, g->inside ? g->state : g->table->models.words, left->len * sizeof(uint64_t));
+    CHECK_NUMBER(omitting(models, len), lent_answer.words[0]);
+    give_capacity(models, len, UINT64_MAX);
+    CHECK(same(wanted_words, left->words, left->len));
+}
+
 static void check_done(const struct given *g) {
     switch (g->kind) {
+    case WRITE_OUT:
+        check_written_out(g);
+        break;
     case POST:
     case PUT:
         check_laid(g);
@@ -194,7 +215,36 @@ static void check_done(const struct given *g) {
     }
 }
 
+/* ---- what intake reports, refused or not */
+/* How many rows a part has, one that is cut short among them. */
+static size_t rows_of_part(const struct table *t, uint64_t part) {
+    if (part == JT_MODELS)
+        return rows_of(t->models.len, JT_MODEL_WORDS);
+    if (part == JT_CONNECTORS)
+        return rows_of(t->connectors.len, JT_CONNECTOR_WORDS);
+    return rows_of(t->couplings.len, JT_COUPLING_WORDS);
+}
+
+static void check_intake(const struct given *g, uint32_t number) {
+    const uint64_t *report = lent_answer.words;
+    const struct slice *models = &g->table->models;
+    if (number == JT_BAD_ROW)
+        CHECK_NUMBER(JT_MODELS, report[0]);
+    else if (number == JT_BAD_COUPLING)
+        CHECK(report[0] == JT_CONNECTORS || report[0] == JT_COUPLINGS);
+    else
+        CHECK(report[0] == JT_NOWHERE && report[1] == 0);
+    CHECK(report[0] == JT_NOWHERE || report[1] < rows_of_part(g->table, report[0]));
+    CHECK_NUMBER(number == JT_OK ? omitting(models->words, models->len) : 0, report[2]);
+}
+
 /* ---- what a run leaves */
+/* No processor holds more than its capacity, which is 32 where it is omitted. */
+static void check_capacities(const uint64_t *state) {
+    for (size_t i = 0; i < state[0]; i++)
+        CHECK(kind_of(state, i) != PROCESSOR || state[head_at(state, i) + 2] <= capacity_of(row_in(state, i)));
+}
+
 /* After some steps. The messages of the last one are the last rows, but for a step that reached `until`. */
 static void check_stepped(const struct given *g, uint64_t written, int reached) {
     const uint64_t *state = lent_state.words;
@@ -204,6 +254,7 @@ static void check_stepped(const struct given *g, uint64_t written, int reached) 
     if (failures > 0)
         return;
     check_beyond(g, state_end(state));
+    check_capacities(state);
     if (g->kind == STEP_UNTIL)
         CHECK((state[tail + 1] >= g->time) == reached);
     if (!reached) {
@@ -266,6 +317,8 @@ static void check_call(const struct given *g, uint32_t number) {
         check_table(g->table);
     if (is_run(g->kind))
         check_run(g, number);
+    else if (g->kind == INTAKE)
+        check_intake(g, number);
     else if (number != JT_OK)
         check_refused(g);
     else

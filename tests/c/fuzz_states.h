@@ -21,10 +21,35 @@ static uint64_t id_of(const uint64_t *state, size_t i) {
     return state[3 + JT_MODEL_WORDS * i];
 }
 
+static const uint64_t *row_in(const uint64_t *state, size_t i) {
+    return state + 3 + JT_MODEL_WORDS * i;
+}
+
+/* The table inside a state. */
+static void table_inside(struct table *t, const uint64_t *state) {
+    t->models.len = (size_t)(JT_MODEL_WORDS * state[0]);
+    t->connectors.len = (size_t)(JT_CONNECTOR_WORDS * state[1]);
+    t->couplings.len = (size_t)(JT_COUPLING_WORDS * state[2]);
+    memcpy(t->models.words, state + 3, t->models.len * sizeof(uint64_t));
+    memcpy(t->connectors.words, state + 3 + t->models.len, t->connectors.len * sizeof(uint64_t));
+    memcpy(t->couplings.words, state + tail_at(state) - t->couplings.len, t->couplings.len * sizeof(uint64_t));
+    t->good = 1;
+}
+
 /* A row, rather one without parent. */
 static size_t some_row(const uint64_t *state) {
     size_t i = (size_t)below(state[0]);
     return has_parent(state, i) ? (size_t)below(state[0]) : i;
+}
+
+/* A processor that omits its capacity, or the number of rows. */
+static size_t some_omitting(const uint64_t *state) {
+    size_t rows = (size_t)state[0];
+    size_t begin = rows == 0 ? 0 : (size_t)below(rows);
+    for (size_t i = begin; i < begin + rows; i++)
+        if (omits_capacity(row_in(state, i % rows)))
+            return i % rows;
+    return rows;
 }
 
 static uint64_t some_id(const uint64_t *state) {
@@ -77,7 +102,7 @@ static uint64_t some_mark(void) {
 
 /* A row that holds so many, with a phase and a timer that go with it or not. */
 static void stuff_row(uint64_t *state, size_t i) {
-    static const uint64_t counts[] = {0, 1, 2, 3, 8, 62, 63, 64, 64, 65};
+    static const uint64_t counts[] = {0, 1, 2, 3, 8, 31, 32, 32, 33, 62, 63, 64, 64, 65};
     uint64_t kind = kind_of(state, i);
     uint64_t held = counts[below(sizeof counts / sizeof counts[0])];
     uint64_t *head = state + head_at(state, i);
@@ -101,6 +126,17 @@ static void stuff_state(uint64_t *state, size_t len) {
         stuff_messages(state, len);
     for (; rows > 0; rows--)
         stuff_row(state, (size_t)below(state[0]));
+}
+
+/* A processor at work with so many jobs: the state stays one just where that many may be held. */
+static void crowd_row(uint64_t *state, size_t i, uint64_t held) {
+    uint64_t *head = state + head_at(state, i);
+    uint64_t *own = state + tail_at(state) + head[3];
+    head[0] = held > 0;
+    head[1] = held > 0 ? 0 : NEVER;
+    head[2] = held;
+    for (size_t job = 0; job < MOST_HELD; job++)
+        own[job] = job < held ? job + 1 : 0;
 }
 
 /* ---- words that are no state, but for a few: noise, or any at the front and then zeros, small words or what stood there */

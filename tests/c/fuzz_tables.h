@@ -7,6 +7,7 @@
 #include "kinds.h"
 
 enum { MOST_MODELS = 64, MOST_CONNECTORS = 256, MOST_COUPLINGS = 256, MOST_DEPTH = 4, NO_ROW = 64, TABLE_ROOM = 1700 };
+enum { MOST_FIELDS = PARENT_GIVEN + CAPACITY_GIVEN + METRIC_GIVEN };
 
 struct slice {
     uint64_t words[TABLE_ROOM];
@@ -49,9 +50,12 @@ static uint64_t *model_at(struct table *t, size_t i) {
     return t->models.words + JT_MODEL_WORDS * i;
 }
 
+/* Where its capacity is omitted, the setting is any all the same: it is not looked at. */
 static void processor_row(uint64_t *row) {
-    static const uint64_t capacities[] = {0, 1, 1, 2, 3, 8, 8, 8, 40, 40, 63, 64, 64, 65, 65, UINT64_MAX};
-    row[2] = one_in(4) ? 0 : CAPACITY_GIVEN;
+    static const uint64_t capacities[] = {0, 1, 1, 2, 3, 8, 8, 8, 32, 33, 40, 40, 63, 64, 64, 65, 65, UINT64_MAX};
+    row[2] = one_in(3) ? 0 : CAPACITY_GIVEN;
+    if (one_in(8))
+        row[2] += METRIC_GIVEN;
     row[4] = 1;
     row[7] = 2;
     row[8] = capacities[below(sizeof capacities / sizeof capacities[0])];
@@ -117,6 +121,32 @@ static void good_models(struct table *t, size_t rows) {
         model_at(t, i)[0] = (first + factor * i) & 0xffff;
         give_parent(t, i);
     }
+}
+
+/* ---- a processor's capacity, as jambthrush.h says it */
+static int omits_capacity(const uint64_t *row) {
+    return row[1] == PROCESSOR && row[2] <= MOST_FIELDS && (row[2] & CAPACITY_GIVEN) == 0;
+}
+
+static uint64_t capacity_of(const uint64_t *row) {
+    return omits_capacity(row) ? JT_OMITTED_CAPACITY : row[8];
+}
+
+/* How many whole rows omit it. */
+static uint64_t omitting(const uint64_t *models, size_t len) {
+    uint64_t count = 0;
+    for (; len >= JT_MODEL_WORDS; models += JT_MODEL_WORDS, len -= JT_MODEL_WORDS)
+        count += omits_capacity(models) != 0;
+    return count;
+}
+
+/* These rows with this number written into them. */
+static void give_capacity(uint64_t *models, size_t len, uint64_t capacity) {
+    for (; len >= JT_MODEL_WORDS; models += JT_MODEL_WORDS, len -= JT_MODEL_WORDS)
+        if (omits_capacity(models)) {
+            models[2] |= CAPACITY_GIVEN;
+            models[8] = capacity;
+        }
 }
 
 /* ---- connectors and couplings */
@@ -282,6 +312,22 @@ static void junk_table(struct table *t) {
     junk_slice(&t->models, JT_MODEL_WORDS);
     junk_slice(&t->connectors, JT_CONNECTOR_WORDS);
     junk_slice(&t->couplings, JT_COUPLING_WORDS);
+}
+
+/* Any words of any length, but most rows near a processor's that omits its capacity. */
+static void loose_models(struct table *t) {
+    struct slice *s = &t->models;
+    uint64_t pick = below(3);
+    t->good = 0;
+    s->len = (size_t)below(one_in(4) ? 30 : 700);
+    for (size_t i = 0; i < s->len; i++)
+        s->words[i] = pick == 0 ? random_word() : pick == 1 ? any_word() : below(10);
+    if (one_in(4))
+        return;
+    for (size_t row = 0; row < s->len; row += JT_MODEL_WORDS) {
+        s->words[row + 1] = one_in(4) ? changed_word(PROCESSOR) : PROCESSOR;
+        s->words[row + 2] = one_in(4) ? changed_word(below(8)) : below(9);
+    }
 }
 
 #endif
