@@ -12,8 +12,9 @@
  * Where a step is refused after others were completed, these are run a second time to leave them standing, so the call costs
  * them twice; not with JT_IDLE and JT_CLOCK_OVERFLOW, which are decided before a step changes anything.
  *
- * Each call checks all that it is handed, the state buffer first, and no table, message, time or word in a buffer traps it or
- * makes it write elsewhere. That is proved; what the proof rests on, and what it leaves to the caller, is in docs/TRUST.md.
+ * Each call checks all that it is handed, the state buffer first if it has one, and no table, message, time or word in a
+ * buffer traps it or makes it write elsewhere. That is proved; what the proof rests on, and what it leaves to the caller, is
+ * in docs/TRUST.md.
  *
  * Time. Every call ends, but not every call ends soon. One message to a Coupled makes an event for each way along matching
  * external input couplings, and ways multiply level by level: 64 such couplings in each of four nested Coupleds, and 256
@@ -28,17 +29,18 @@
  * refuses every step from then on, until `services` holds what it needs (JT_NO_SERVICE_TIME, JT_BAD_TIME) or another table is
  * posted or put.
  *
- * Running on. A run may be cut in parts: a steps and then b more, with the same `services` and with `rows` lent from behind the
- * first part's rows on, are one call with a + b, in state, rows, steps and answer. The answer of the whole is the first part's
- * where that is a refusal, else the second's: asked for no steps, a second part answers 0, but for JT_BAD_STATE, which comes
- * first in every call. docs/PAUSING.md has this for jt_step_until too, and a run that is stored in a file and goes on in another
- * process.
+ * Running on. A run may be cut in parts: a steps and then b more, with the same `services` and with `rows` lent from behind
+ * the first part's rows on, are one call with a + b, in state, rows, steps and answer. The answer of the whole is the first
+ * part's where that is a refusal, else the second's: asked for no steps, a second part answers 0, but for JT_BAD_STATE,
+ * which comes first. docs/PAUSING.md has this for jt_step_until too, and a run that is stored in a file and goes on in
+ * another process.
  *
  * Memory. A slice is a pointer and a length in elements, aligned as its type asks. A pointer may be NULL where the length is
- * 0. `report`, `count` and `time` point to memory of the size shown. What a call writes (a state that is not const, `rows`,
- * `report`, `count`, `time`) overlaps nothing else that it is handed; what is only read may be lent twice. One buffer is used
- * by one call at a time, unless all of them only read it; calls on different buffers may run on different threads. The
- * processor's floating-point mode is as C starts it: to nearest, subnormal numbers kept (not so after gcc -ffast-math).
+ * 0. `report`, `count` and `time` point to memory of the size shown. What a call writes (all that is not const: a state,
+ * `rows`, models, `report`, `count`, `time`) overlaps nothing else that it is handed; what is only read may be lent twice.
+ * One buffer is used by one call at a time, unless all of them only read it; calls on different buffers may run on different
+ * threads. The processor's floating-point mode is as C starts it: to nearest, subnormal numbers kept (not so after gcc
+ * -ffast-math).
  *
  * Stack: under 64 KiB for tables of up to 8 rows, under 256 KiB for any (measured: docs/LAYOUT.md).
  */
@@ -93,22 +95,25 @@ enum { JT_OMITTED_CAPACITY = 32 };
 enum { JT_MODEL_WORDS = 10, JT_CONNECTOR_WORDS = 4, JT_COUPLING_WORDS = 6, JT_MESSAGE_WORDS = 6 };
 
 /* How many words a state buffer must have for any state of a table of these lengths (in words), at least 1542 and at most
- * 17286. Every call refuses a shorter buffer with JT_BAD_STATE, and leaves longer ones alone beyond the state's end.
+ * 17286. Every call on a state refuses a shorter buffer with JT_BAD_STATE, and leaves longer ones alone beyond the state's end.
  * 0 where the table is too large: no buffer is too short for it, and jt_post and jt_put refuse it with JT_TOO_LARGE. */
 size_t jt_state_words(size_t models_len, size_t connectors_len, size_t couplings_len);
 
-/* What intake says of a table: 0, JT_TOO_LARGE, JT_BAD_ROW or JT_BAD_COUPLING, as jt_post does. Every call writes `report`:
+/* What intake says of a table, with no state at hand: 0, JT_TOO_LARGE, JT_BAD_ROW or JT_BAD_COUPLING, as jt_post says it where
+ * the state buffer is long enough. `report` is written by every call:
  * report[0]: where the first bad row stands (enum jt_part); JT_NOWHERE with 0 and with JT_TOO_LARGE
- * report[1]: that row, counted from 0; 0 where report[0] is JT_NOWHERE
+ * report[1]: that row, counted from 0 in its own slice, a row cut short counted; 0 where report[0] is JT_NOWHERE
  * report[2]: how many processor rows omit queue_capacity, where the table passes; 0 where it does not. */
 uint32_t jt_intake(const uint64_t *models, size_t models_len, const uint64_t *connectors, size_t connectors_len,
                    const uint64_t *couplings, size_t couplings_len, uint64_t report[3]);
 
-/* For tables written before an omitted queue_capacity meant 32, when it meant 2^64 - 1: each whole processor row that omits it
- * gets 2^64 - 1 written out (flag 2 in its word 2, and its word 8), and then says what it said. No other word changes; a row
- * whose word 2 is above 7 is left alone. Any words of any length may be lent. *count is how many rows were written. Answers 0.
- * A stored state holds its table: jt_write_out_capacity(state + 3, 10 * state[0], &count), where state[0] is at most 64 and
- * the buffer has that many words and 3 more (docs/LAYOUT.md). */
+/* For tables from the time when an omitted queue_capacity meant 2^64 - 1, and for no others: each whole processor row that
+ * omits it (word 1 is 1, word 2 is at most 7 and lacks 2) gets 2 more in word 2 and 2^64 - 1 in word 8, and so means what it
+ * meant. No other word changes, *count is how many rows were written, and the answer is 0. Any words, of any length, may be
+ * lent. A stored state has its table inside: jt_write_out_capacity(state + 3, 10 * state[0], &count), after a look that
+ * state[0] is at most 64 and the buffer at least 3 + 10 * state[0] words long. Do that before any other call: an old state
+ * with more than 32 jobs in such a processor is JT_BAD_STATE until then, and one with fewer would drop the 33rd
+ * (docs/LAYOUT.md). */
 uint32_t jt_write_out_capacity(uint64_t *models, size_t models_len, uint64_t *count);
 
 /* A new simulation of a table, written into the state buffer, of which only the length is looked at.

@@ -58,6 +58,8 @@ static void *all_calls(void *given) {
     uint64_t report[3];
     uint64_t count;
     double time;
+    CHECK_NUMBER(JT_OK, jt_intake(t->models, 10 * t->rows, t->connectors, 1024, t->couplings, 48, report));
+    CHECK_NUMBER(JT_OK, jt_write_out_capacity(t->models, 10 * t->rows, &count));
     CHECK_NUMBER(JT_OK, jt_post(t->models, 10 * t->rows, t->connectors, 1024, t->couplings, 48, t->state, t->state_len));
     CHECK_NUMBER(JT_OK, jt_put(t->state, t->state_len, t->models, 10 * t->rows, t->connectors, 1024, t->couplings, 48));
     for (uint32_t job = 0; job < 7; job++)

@@ -1,5 +1,5 @@
 -- Intake's verdict does not hang on the capacity of a row that omits it, so the migration leaves it as it was. Assumes nothing.
-use Prim.Native.Nat.{ℕ, zero, suc, _+_}
+use Prim.Native.Nat.{ℕ, suc, _+_}
 use mathlib.Core.Path.{_≡_, refl, sym, ap, _∙_, subst}
 use mathlib.Core.Logic.{inl, inr}
 use mathlib.Core.Bool.{Bool, true, false, not, _&&_}
@@ -8,13 +8,13 @@ use mathlib.Core.Option.{Option, none, some}
 use lib.ListN.{length}
 use lib.Dec.{leb, ltb, eqb}
 use borrow.Author.Tests.{eq-eqb, ne-eqb}
-use Rattle.rules.specs.Sizes.{isId, isPort, isWord, deepest, mostRows, mostConnectors, mostCouplings, omittedCapacity}
+use Rattle.rules.specs.Sizes.{isId, isPort, deepest, mostRows, mostConnectors, mostCouplings, omittedCapacity}
 use Rattle.rules.specs.Base.{if_then_else_, every, some-of, hold}
 use Rattle.rules.specs.Decides.{same, either}
-use Rattle.rules.specs.Table.{Kind, processor, Row, Coupling, externalInput, externalOutput, internalCoupling, isCoupled, isParent}
+use Rattle.rules.specs.Table.{processor, Row, Coupling, externalInput, externalOutput, internalCoupling, isCoupled, isParent}
 use Rattle.rules.specs.Intake as Intake
-use Rattle.rules.specs.Intake.{Posted, kindRules, isNew, isCoupledId, parentFits, depthOf, depthFits, rowRules, isComponentOf, connectorRules, couplingRules, firstBadRow, firstBad, whole, sizeRules}
-use Rattle.rules.specs.Layout.{rowsOf, cell, isGiven, parentIn, capacityIn, kindIn, rowIn, modelRow, lent, modelWidth}
+use Rattle.rules.specs.Intake.{Posted, kindRules, isNew, isCoupledId, parentFits, depthOf, rowRules, isComponentOf, connectorRules, couplingRules, firstBadRow, firstBad, whole, sizeRules}
+use Rattle.rules.specs.Layout.{rowsOf, cell, isGiven, parentIn, capacityIn, modelRow, lent, modelWidth}
 use Rattle.table.specs.declared.Verdict.{Verdict}
 use Rattle.table.specs.declared.Verdict.the-variants.{TooLarge, BadRow, BadConnector, BadCoupling, Passed}
 use Rattle.table.specs.Verdicts.{verdictOf}

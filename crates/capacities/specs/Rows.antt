@@ -3,13 +3,12 @@ use Prim.Native.Nat.{ℕ, zero, suc, _+_, _/_, _%_, _≤_, _<_}
 use mathlib.Core.Path.{_≡_, refl, sym, ap, _∙_}
 use mathlib.Core.Bool.{Bool, true, false, not, false≢true}
 use mathlib.Core.List.{List, [], _∷_, _++_, map, append-nil, append-assoc}
-use native.Mathlib.Nat.{zero-add, add-assoc}
 use native.Mathlib.Omega.{arith}
 use borrow.Rule.Slice.PartMut.{putMid}
 use borrow.Author.Tests.{ltb-true, eqb-true, eqb-false, not-true, ne-eqb}
 use lib.Dec.{ltb, eqb}
-use lib.ListN.{length, set, take, drop, length-take, length-append, length-drop, length-set, take-append-drop, drop-of-length-le}
-use lib.Seq.{take-all, take-at, drop-at, drop-drop, take-add, length-take-le}
+use lib.ListN.{length, set, take, drop, length-append, length-drop, length-set, drop-of-length-le}
+use lib.Seq.{take-all, take-at, drop-at, drop-drop, length-take-le}
 use Rattle.rules.specs.Base.{if_then_else_, those, hold}
 use Rattle.rules.specs.Layout.{cut, rowsOf, cell, isGiven, omitsCapacity, omittedIn}
 use Rattle.capacities.specs.Migration.{withoutEnd, rowWrittenOut, joined, writtenOut}

@@ -1,5 +1,5 @@
 -- "Sizes and numbers" of 01: the widths and the limits, each named once. Definitions only. Assumes nothing.
-use Prim.Native.Nat.{ℕ, _-_, _^_}
+use Prim.Native.Nat.{ℕ, _^_}
 use mathlib.Core.Bool.{Bool}
 use lib.Dec.{ltb}
 
