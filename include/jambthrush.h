@@ -112,8 +112,8 @@ uint32_t jt_intake(const uint64_t *models, size_t models_len, const uint64_t *co
  * meant. No other word changes, *count is how many rows were written, and the answer is 0. Any words, of any length, may be
  * lent. A stored state has its table inside: jt_write_out_capacity(state + 3, 10 * state[0], &count), after a look that
  * state[0] is at most 64 and the buffer at least 3 + 10 * state[0] words long. Do that before any other call: an old state
- * with more than 32 jobs in such a processor is JT_BAD_STATE until then, and one with fewer would drop the 33rd
- * (docs/LAYOUT.md). */
+ * with more than 32 jobs in such a processor is JT_BAD_STATE until then, and one with at most 32 would go on and drop the
+ * 33rd (docs/LAYOUT.md). */
 uint32_t jt_write_out_capacity(uint64_t *models, size_t models_len, uint64_t *count);
 
 /* A new simulation of a table, written into the state buffer, of which only the length is looked at.

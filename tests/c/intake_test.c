@@ -209,6 +209,15 @@ static struct bench stored(uint64_t fields, uint32_t jobs) {
     return b;
 }
 
+/* One job more is kept, as it was then; the 65th is refused. */
+static void goes_on(struct bench *b, uint64_t held) {
+    uint64_t rows[6];
+    uint64_t report[3];
+    CHECK_NUMBER(JT_OK, inject(b, 1, 1, 99));
+    CHECK_NUMBER(held < 64 ? JT_OK : JT_NO_QUEUE_ROOM, jt_step(b->state.words, b->state.len, times, 1, rows, 6, report));
+    CHECK_NUMBER(held < 64 ? held + 1 : 64, b->state.words[head_at(b->state.words, 1) + 2]);
+}
+
 static void test_stored_state(void) {
     static const uint32_t jobs[] = {1, 32, 33, 40, 64};
     for (size_t i = 0; i < sizeof jobs / sizeof *jobs; i++) {
@@ -229,6 +238,7 @@ static void test_stored_state(void) {
         before[3 + 10 + 8] = UINT64_MAX;
         CHECK(same(before, state, b.state.len));
         CHECK_NUMBER(jobs[i], state[head_at(state, 1) + 2]);
+        goes_on(&b, jobs[i]);
         free(before);
         guarded_free(b.state);
     }

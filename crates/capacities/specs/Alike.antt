@@ -1,17 +1,19 @@
 -- Intake's verdict does not hang on the capacity of a row that omits it, so the migration leaves it as it was. Assumes nothing.
-use Prim.Native.Nat.{ℕ, suc, _+_}
+use Prim.Native.Nat.{ℕ, suc, _+_, _≤_}
 use mathlib.Core.Path.{_≡_, refl, sym, ap, _∙_, subst}
 use mathlib.Core.Logic.{inl, inr}
 use mathlib.Core.Bool.{Bool, true, false, not, _&&_}
 use mathlib.Core.List.{List, [], _∷_, map}
 use mathlib.Core.Option.{Option, none, some}
+use native.Mathlib.Omega.{arith}
 use lib.ListN.{length}
 use lib.Dec.{leb, ltb, eqb}
 use borrow.Author.Tests.{eq-eqb, ne-eqb}
+use Rattle.rules.specs.declared.Processor.{Processor}
 use Rattle.rules.specs.Sizes.{isId, isPort, deepest, mostRows, mostConnectors, mostCouplings, omittedCapacity}
 use Rattle.rules.specs.Base.{if_then_else_, every, some-of, hold}
 use Rattle.rules.specs.Decides.{same, either}
-use Rattle.rules.specs.Table.{processor, Row, Coupling, externalInput, externalOutput, internalCoupling, isCoupled, isParent}
+use Rattle.rules.specs.Table.{Kind, processor, Row, Coupling, externalInput, externalOutput, internalCoupling, isCoupled, isParent}
 use Rattle.rules.specs.Intake as Intake
 use Rattle.rules.specs.Intake.{Posted, kindRules, isNew, isCoupledId, parentFits, depthOf, rowRules, isComponentOf, connectorRules, couplingRules, firstBadRow, firstBad, whole, sizeRules}
 use Rattle.rules.specs.Layout.{rowsOf, cell, isGiven, parentIn, capacityIn, modelRow, lent, modelWidth}
@@ -21,18 +23,26 @@ use Rattle.table.specs.Verdicts.{verdictOf}
 use Rattle.capacities.specs.Migration.{withoutEnd, oldCapacityIn, oldModelRow, oldLent, writtenOut}
 use Rattle.capacities.specs.Migrated.{reads-as-before}
 
--- ---- rows that intake cannot tell apart
-record Same (r s : Row) : Type 0 where
-  id : r .id ≡ s .id
-  parent : r .parent ≡ s .parent
-  coupled : isCoupled (r .kind) ≡ isCoupled (s .kind)
-  keeps : hold (kindRules (r .kind)) ≡ hold (kindRules (s .kind))
+-- ---- rows that intake cannot tell apart: the same but for a Processor's capacity, which may be larger in the second
+pub data Wider : Kind → Kind → Type 0 where
+  equal : (k : Kind) → Wider k k
+  wider : (p q : Processor) → p .«queue_capacity» ≤ q .«queue_capacity» → Wider (processor p) (processor q)
 
-data Alike : List Row → List Row → Type 0 where
+pub record Same (r s : Row) : Type 0 where
+  pub id : r .id ≡ s .id
+  pub parent : r .parent ≡ s .parent
+  pub kind : Wider (r .kind) (s .kind)
+  pub keeps : hold (kindRules (r .kind)) ≡ hold (kindRules (s .kind))
+
+coupled-same : (k l : Kind) → Wider k l → isCoupled k ≡ isCoupled l
+coupled-same k l (equal m) = refl
+coupled-same k l (wider p q more) = refl
+
+pub data Alike : List Row → List Row → Type 0 where
   empty : Alike [] []
   next : {r s : Row} {rs ss : List Row} → Same r s → Alike rs ss → Alike (r ∷ rs) (s ∷ ss)
 
-data Lines : List (Option Row) → List (Option Row) → Type 0 where
+pub data Lines : List (Option Row) → List (Option Row) → Type 0 where
   nothing : Lines [] []
   broken : {rs ss : List (Option Row)} → Lines rs ss → Lines (none ∷ rs) (none ∷ ss)
   read : {r s : Row} {rs ss : List (Option Row)} → Same r s → Lines rs ss → Lines (some r ∷ rs) (some s ∷ ss)
@@ -42,7 +52,7 @@ some-alike f e rs ss empty = refl
 some-alike f e (r ∷ rs) (s ∷ ss) (next h t) = λ i. if e r s h i then true else some-alike f e rs ss t i
 
 coupled-alike : (rs ss : List Row) → Alike rs ss → (id : ℕ) → isCoupledId rs id ≡ isCoupledId ss id
-coupled-alike rs ss t id = some-alike (λ (r : Row). eqb (r .id) id && isCoupled (r .kind)) (λ r s h. (λ i. eqb (h .id i) id && h .coupled i)) rs ss t
+coupled-alike rs ss t id = some-alike (λ (r : Row). eqb (r .id) id && isCoupled (r .kind)) (λ r s h. (λ i. eqb (h .id i) id && coupled-same (r .kind) (s .kind) (h .kind) i)) rs ss t
 
 component-alike : (rs ss : List Row) → Alike rs ss → (owner target : ℕ) → isComponentOf rs owner target ≡ isComponentOf ss owner target
 component-alike rs ss t owner target = some-alike (λ (r : Row). eqb (r .id) target && isParent owner (r .parent)) (λ r s h. (λ i. eqb (h .id i) target && isParent owner (h .parent i))) rs ss t
@@ -67,7 +77,7 @@ row-alike rs ss t r s h =
     let depth : depthOf rs (r .parent) ≡ depthOf ss (s .parent) = depth-alike rs ss t (r .parent) ∙ ap (depthOf ss) (h .parent) in
     let fresh : isNew rs (r .id) ≡ isNew ss (s .id) = new-alike rs ss t (r .id) ∙ ap (isNew ss) (h .id) in
     let held : parentFits rs (r .parent) ≡ parentFits ss (s .parent) = parent-alike rs ss t (r .parent) ∙ ap (parentFits ss) (h .parent) in
-    λ i. hold (isId (h .id i) ∷ fresh i ∷ held i ∷ (if h .coupled i then leb (depth i) deepest else true) ∷ h .keeps i ∷ [])
+    λ i. hold (isId (h .id i) ∷ fresh i ∷ held i ∷ (if coupled-same (r .kind) (s .kind) (h .kind) i then leb (depth i) deepest else true) ∷ h .keeps i ∷ [])
 
 rows-alike : (k : ℕ) (es fs : List Row) → Alike es fs → (rs ss : List (Option Row)) → Lines rs ss → firstBadRow k es rs ≡ firstBadRow k fs ss
 rows-alike k es fs t rs ss nothing = refl
@@ -76,7 +86,7 @@ rows-alike k es fs t (some r ∷ rs) (some s ∷ ss) (read h l) =
     λ i. if row-alike es fs t r s h i then rows-alike (suc k) (r ∷ es) (s ∷ fs) (next h t) rs ss l i else some k
 
 -- ---- and so is a coupling
-whole-alike : (rs ss : List (Option Row)) → Lines rs ss → Alike (whole rs) (whole ss)
+pub whole-alike : (rs ss : List (Option Row)) → Lines rs ss → Alike (whole rs) (whole ss)
 whole-alike rs ss nothing = empty
 whole-alike (none ∷ rs) (none ∷ ss) (broken l) = whole-alike rs ss l
 whole-alike (some r ∷ rs) (some s ∷ ss) (read h l) = next h (whole-alike rs ss l)
@@ -122,7 +132,7 @@ judged-by p = by (hold (sizeRules p)) (firstBadRow 0 [] (p .rows)) (firstBad con
     by true none none (some k) = refl
     by true none none none = refl
 
-verdict-alike : (p q : Posted) → Lines (p .rows) (q .rows) → p .connectors ≡ q .connectors → p .couplings ≡ q .couplings → verdictOf (Intake.intake p) ≡ verdictOf (Intake.intake q)
+pub verdict-alike : (p q : Posted) → Lines (p .rows) (q .rows) → p .connectors ≡ q .connectors → p .couplings ≡ q .couplings → verdictOf (Intake.intake p) ≡ verdictOf (Intake.intake q)
 verdict-alike p q l e f =
     judged-by p
     ∙ (λ i. found
@@ -133,15 +143,17 @@ verdict-alike p q l e f =
     ∙ sym (judged-by q)
 
 -- ---- the two readings of a row
+same-row : (r : Row) → Same r r
+same-row r = record { id = refl; parent = refl; kind = equal (r .kind); keeps = refl }
+
 abbrev aProcessor : List ℕ → ℕ → Row
 aProcessor row capacity = record { id = cell row 0; parent = parentIn row; kind = processor (record { input = cell row 4; output = cell row 7; «queue_capacity» = capacity }) }
 
 capacities-same : (row : List ℕ) (given : Bool) → Same (aProcessor row (if given then cell row 8 else omittedCapacity)) (aProcessor row (if given then cell row 8 else withoutEnd))
-capacities-same row true = record { id = refl; parent = refl; coupled = refl; keeps = refl }
-capacities-same row false = record { id = refl; parent = refl; coupled = refl; keeps = refl }
-
-same-row : (r : Row) → Same r r
-same-row r = record { id = refl; parent = refl; coupled = refl; keeps = refl }
+capacities-same row true = same-row (aProcessor row (cell row 8))
+capacities-same row false =
+    let more : omittedCapacity ≤ withoutEnd = omega arith in
+    record { id = refl; parent = refl; kind = wider _ _ more; keeps = refl }
 
 self : (o : Option Row) (rs ss : List (Option Row)) → Lines rs ss → Lines (o ∷ rs) (o ∷ ss)
 self none rs ss l = broken l
@@ -159,7 +171,7 @@ one-line row rs ss l = elim (either (same (cell row 1) 1)) [
     fits true = read (capacities-same row (isGiven 2 row)) l
     fits false = broken l
 
-all-lines : (rows : List (List ℕ)) → Lines (map modelRow rows) (map oldModelRow rows)
+pub all-lines : (rows : List (List ℕ)) → Lines (map modelRow rows) (map oldModelRow rows)
 all-lines [] = nothing
 all-lines (row ∷ rows) = one-line row (map modelRow rows) (map oldModelRow rows) (all-lines rows)
 

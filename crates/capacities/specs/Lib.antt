@@ -5,3 +5,4 @@ pub mod Rows
 pub mod Migrated
 pub mod Alike
 pub mod States
+pub mod Stays

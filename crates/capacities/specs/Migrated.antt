@@ -2,9 +2,9 @@
 use Prim.Native.Nat.{ℕ, zero, suc, _+_, _*_, _/_, _%_, _≤_, _<_}
 use mathlib.Core.Path.{_≡_, refl, sym, ap, _∙_}
 use mathlib.Core.Logic.{inl, inr}
-use mathlib.Core.Bool.{Bool, true, false, not, false≢true}
+use mathlib.Core.Bool.{Bool, true, false, not, _&&_, false≢true}
 use mathlib.Core.List.{List, [], _∷_, map, map-map}
-use mathlib.Core.Option.{none, some}
+use mathlib.Core.Option.{Option, none, some}
 use native.Mathlib.Decide.{decLe}
 use native.Mathlib.Omega.{arith}
 use borrow.Author.Tests.{eq-eqb, ne-eqb, lt-ltb}
@@ -15,8 +15,8 @@ use Rattle.rules.specs.Sizes.{isPort, omittedCapacity}
 use Rattle.rules.specs.Base.{if_then_else_, every, hold, those}
 use Rattle.rules.specs.Decides.{same, either}
 use Rattle.rules.specs.Ends.{no-some}
-use Rattle.rules.specs.Table.{Row, processor}
-use Rattle.rules.specs.Layout.{rowsOf, cell, isGiven, parentIn, modelRow, lent, omitsCapacity, omittedIn, modelWidth, connectorWidth, couplingWidth, connectorRow, couplingRow}
+use Rattle.rules.specs.Table.{Kind, processor, batcher, stopwatch, coupled, Row}
+use Rattle.rules.specs.Layout.{rowsOf, cell, isGiven, parentIn, kindIn, unusedPorts, rowIn, modelRow, lent, omitsCapacity, omittedIn, modelWidth, connectorWidth, couplingWidth, connectorRow, couplingRow}
 use Rattle.table.specs.Readers.{rowOf}
 use Rattle.table.specs.Rows.{row-cell}
 use Rattle.capacities.specs.Migration.{withoutEnd, oldModelRow, oldLent, rowWrittenOut, joined, writtenOut}
@@ -98,7 +98,7 @@ unlike made true false ports given said now old e = refl
 unlike made true true ports true said now old e = refl
 unlike made true true ports false said now old e = absurd (false≢true (sym e))
 
-as-before : (row : List ℕ) → omitsCapacity row ≡ false → modelRow row ≡ oldModelRow row
+pub as-before : (row : List ℕ) → omitsCapacity row ≡ false → modelRow row ≡ oldModelRow row
 as-before row e = elim (either (same (cell row 1) 1)) [
   | inl is ↦
       let one = eq-eqb (cell row 1) 1 is in
@@ -202,6 +202,43 @@ row-says-capacity models k r e kind = says (eqb (length row) 10) (ltb (cell row 
     says true false false a b c = absurd (let n : modelRow row ≡ none = rw (kind, a, b) in no-some (sym n ∙ e))
     says true true false a b c =
         absurd (let o : omitsCapacity row ≡ true = rw (a, kind, b, c) in false≢true (sym (ap omitsCapacity (row-written models k) ∙ row-says (rowOf modelWidth models k)) ∙ o))
+
+-- ---- what is counted: of the rows that can be read, the Processors' that lack the flag
+read-whole : (row : List ℕ) (o : Option Kind) (r : Row) → rowIn row o ≡ some r → (eqb (length row) 10 ≡ true) × (ltb (cell row 2) 8 ≡ true)
+read-whole row none r e = absurd (no-some e)
+read-whole row (some kind) r e = by (eqb (length row) 10) (ltb (cell row 2) 8) (every isPort (unusedPorts kind row)) e
+  where
+    by : (long few ports : Bool) → (if hold (long ∷ few ∷ ports ∷ []) then some (record { id = cell row 0; parent = parentIn row; kind = kind }) else none) ≡ some r → (long ≡ true) × (few ≡ true)
+    by true true ports e = (refl, refl)
+    by true false ports e = absurd (no-some e)
+    by false few ports e = absurd (no-some e)
+
+pub counted-read : (row : List ℕ) (r : Row) → modelRow row ≡ some r → omitsCapacity row ≡ (eqb (cell row 1) 1 && not (isGiven 2 row))
+counted-read row r e = let w = read-whole row (kindIn row) r e in rw (w .0, w .1) (by (eqb (cell row 1) 1) (isGiven 2 row))
+  where
+    by : (one given : Bool) → hold (one ∷ true ∷ not given ∷ []) ≡ (one && not given)
+    by true true = refl
+    by true false = refl
+    by false given = refl
+
+-- and these are the rows that mean something else now: `as-before` has the others
+abbrev capacityOr : Option Row → ℕ
+capacityOr none = 0
+capacityOr (some r) = elim (r .kind) [ processor p ↦ p .«queue_capacity» | batcher b ↦ 0 | stopwatch w ↦ 0 | coupled ↦ 0 ]
+
+pub reads-otherwise : (row : List ℕ) (r : Row) → modelRow row ≡ some r → omitsCapacity row ≡ true → modelRow row ≡ oldModelRow row → ⊥
+reads-otherwise row r e o f = by (every isPort (cell row 5 ∷ cell row 6 ∷ [])) refl
+  where
+    says : Omits row
+    says = omits-says row o
+
+    by : (ports : Bool) → every isPort (cell row 5 ∷ cell row 6 ∷ []) ≡ ports → ⊥
+    by true p =
+        let now : capacityOr (modelRow row) ≡ 32 = rw (says .kind, says .long, lt-ltb (cell row 2) 8 (says .fields), p, ne-eqb (cell row 2 / 2 % 2) 1 (says .not-given)) in
+        let old : capacityOr (oldModelRow row) ≡ withoutEnd = rw (says .kind, says .long, lt-ltb (cell row 2) 8 (says .fields), p, ne-eqb (cell row 2 / 2 % 2) 1 (says .not-given)) in
+        let same-number : 32 ≡ withoutEnd = sym now ∙ ap capacityOr f ∙ old in
+        omega arith
+    by false p = let n : modelRow row ≡ none = rw (says .kind, says .long, lt-ltb (cell row 2) 8 (says .fields), p) in no-some (sym n ∙ e)
 
 -- ---- "touches no other word"
 pub row-stays : (models : List ℕ) (k : ℕ) → omitsCapacity (rowOf modelWidth models k) ≡ false → rowOf modelWidth (writtenOut models) k ≡ rowOf modelWidth models k

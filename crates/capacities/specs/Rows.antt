@@ -1,11 +1,12 @@
 -- The rows of a slice one by one: how many omit the field, and the slice as the migration leaves it. Assumes nothing.
 use Prim.Native.Nat.{ℕ, zero, suc, _+_, _/_, _%_, _≤_, _<_}
 use mathlib.Core.Path.{_≡_, refl, sym, ap, _∙_}
+use mathlib.Core.Logic.{_↔_}
 use mathlib.Core.Bool.{Bool, true, false, not, false≢true}
 use mathlib.Core.List.{List, [], _∷_, _++_, map, append-nil, append-assoc}
 use native.Mathlib.Omega.{arith}
 use borrow.Rule.Slice.PartMut.{putMid}
-use borrow.Author.Tests.{ltb-true, eqb-true, eqb-false, not-true, ne-eqb}
+use borrow.Author.Tests.{ltb-true, lt-ltb, eqb-true, eqb-false, not-true, eq-eqb, ne-eqb}
 use lib.Dec.{ltb, eqb}
 use lib.ListN.{length, set, take, drop, length-append, length-drop, length-set, drop-of-length-le}
 use lib.Seq.{take-all, take-at, drop-at, drop-drop, length-take-le}
@@ -68,6 +69,9 @@ omits-says row e =
       fields = ltb-true (cell row 2) 8 (h .2);
       not-given = eqb-false (cell row 2 / 2 % 2) 1 (not-true (isGiven 2 row) (h .3));
     }
+
+pub omits-exactly : (row : List ℕ) → (omitsCapacity row ≡ true) ↔ Omits row
+omits-exactly row = (omits-says row, λ o. rw (eq-eqb (length row) 10 (o .long), eq-eqb (cell row 1) 1 (o .kind), lt-ltb (cell row 2) 8 (o .fields), ne-eqb (cell row 2 / 2 % 2) 1 (o .not-given)))
 
 -- a row cut short omits nothing
 pub short-reads : (row : List ℕ) → length row < 10 → omitsCapacity row ≡ false

@@ -1,6 +1,6 @@
 -- The C calls one after the other on one state buffer: what they leave in it, what they return, what happened, and what is demanded of a batcher. Definitions only. Assumes nothing.
 -- A call is data, `rules/Calls.Call`, with its arguments as C hands them in; `room` is how many rows of 6 words its output has room for (`rules/Layout.roomIn`). `rules/Runs.CallFits` asks of them only what C's types keep: ids and ports of 16 bits, a content and an allowance of 32, a count and lengths of 64, times that are doubles.
--- Each clause is the right-hand side of a contract in crates/host/src/lib.rt, with `state` for the words of the buffer when the call is made. The calls that only ask (jt_get_status, jt_get_messages, jt_get_global_time, jt_state_words) cannot write to a state: between the calls of a chain they change nothing.
+-- Each clause is the right-hand side of a contract in crates/host/src/lib.rt, with `state` for the words of the buffer when the call is made. The calls that only ask (jt_get_status, jt_get_messages, jt_get_global_time, jt_state_words, jt_intake) cannot write to a state: between the calls of a chain they change nothing. jt_write_out_capacity, which is for words from before A7 of 02, is no call of a chain: what it leaves of a state is `capacities/States.migrated`.
 use Prim.Native.Nat.{ℕ}
 use mathlib.Core.Path.{_≡_}
 use mathlib.Core.List.{List, [], _∷_, _++_}

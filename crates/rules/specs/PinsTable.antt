@@ -1,7 +1,7 @@
 -- "Sizes and numbers", refusals 1 to 3 and docs/LAYOUT.md, pinned: each case is computed, and an edit of its sentence breaks it. Assumes nothing.
 use Prim.Native.Nat.{ℕ, zero, suc, _+_, _-_, _^_}
 use mathlib.Core.Path.{_≡_, refl}
-use mathlib.Core.Bool.{true, false}
+use mathlib.Core.Bool.{Bool, true, false}
 use mathlib.Core.List.{List, [], _∷_, _++_, map}
 use mathlib.Core.Option.{none, some}
 use lib.ListN.{replicate}
@@ -416,22 +416,22 @@ abbrev rowsAlike : ℕ → List ℕ
 rowsAlike zero = []
 rowsAlike (suc k) = saying 1 0 ++ rowsAlike k
 
+-- whether it omits it, for every word 2 from 0 to 9
+abbrev omitting-by : ℕ → List Bool
+omitting-by kind = map (λ fields. omitsCapacity (saying kind fields)) (from 0 10)
+
 pub record Omitting : Type 0 where
-  pub omits : omitsCapacity (saying 1 0) ≡ true
-  -- the other two fields say nothing of it
-  pub omits-but-parent : omitsCapacity (saying 1 1) ≡ true
-  pub omits-but-metric : omitsCapacity (saying 1 4) ≡ true
-  pub omits-but-both : omitsCapacity (saying 1 5) ≡ true
-  pub gives : omitsCapacity (saying 1 2) ≡ false
-  pub gives-all : omitsCapacity (saying 1 7) ≡ false
+  -- 2 says that it is given; 1 and 4 say nothing of it, and above 7 it is no row to read
+  pub processors : omitting-by 1 ≡ true ∷ true ∷ false ∷ false ∷ true ∷ true ∷ false ∷ false ∷ false ∷ false ∷ []
   -- other kinds have no such field
-  pub no-kind : omitsCapacity (saying 0 0) ≡ false
-  pub a-batcher : omitsCapacity (saying 2 0) ≡ false
-  pub a-stopwatch : omitsCapacity (saying 3 0) ≡ false
-  pub a-coupled : omitsCapacity (saying 4 0) ≡ false
-  -- no rows to read
-  pub fields-8 : omitsCapacity (saying 1 8) ≡ false
+  pub no-kind : omitting-by 0 ≡ replicate 10 false
+  pub batchers : omitting-by 2 ≡ replicate 10 false
+  pub stopwatches : omitting-by 3 ≡ replicate 10 false
+  pub coupleds : omitting-by 4 ≡ replicate 10 false
+  pub kind-over : omitting-by 5 ≡ replicate 10 false
+  -- nor is one that is cut short, or longer, a row to read
   pub cut-short : omitsCapacity (7 ∷ 1 ∷ 0 ∷ 0 ∷ 1 ∷ 0 ∷ 0 ∷ 2 ∷ 8 ∷ []) ≡ false
+  pub too-long : omitsCapacity (saying 1 0 ++ 0 ∷ []) ≡ false
   pub no-row : omitsCapacity [] ≡ false
   -- how many
   pub none-lent : omittedIn [] ≡ 0
@@ -441,18 +441,14 @@ pub record Omitting : Type 0 where
 
 pub omitting : Omitting
 omitting = record {
-  omits = refl;
-  omits-but-parent = refl;
-  omits-but-metric = refl;
-  omits-but-both = refl;
-  gives = refl;
-  gives-all = refl;
+  processors = refl;
   no-kind = refl;
-  a-batcher = refl;
-  a-stopwatch = refl;
-  a-coupled = refl;
-  fields-8 = refl;
+  batchers = refl;
+  stopwatches = refl;
+  coupleds = refl;
+  kind-over = refl;
   cut-short = refl;
+  too-long = refl;
   no-row = refl;
   none-lent = refl;
   two-omit = refl;
