@@ -9,8 +9,8 @@ use native.Mathlib.Decide.{decLe}
 use native.Mathlib.Omega.{arith}
 use borrow.Author.Tests.{eq-eqb, ne-eqb, lt-ltb}
 use lib.Dec.{ltb, eqb}
-use lib.ListN.{length, set, getD, take, drop, length-append, length-drop, length-take, length-set, take-append-drop, drop-of-length-le}
-use lib.Seq.{take-all, take-at, drop-at, drop-drop, length-take-le, getD-set-same, getD-set-other}
+use lib.ListN.{length, set, getD, take, drop, length-append, length-drop, length-take, take-append-drop, drop-of-length-le}
+use lib.Seq.{take-all, take-at, drop-at, drop-drop, length-take-le, lt-length-set, getD-set-same, getD-set-other}
 use Rattle.rules.specs.Sizes.{isPort, omittedCapacity}
 use Rattle.rules.specs.Base.{if_then_else_, every, hold, those}
 use Rattle.rules.specs.Decides.{same, either}
@@ -19,8 +19,8 @@ use Rattle.rules.specs.Table.{Kind, processor, batcher, stopwatch, coupled, Row
 use Rattle.rules.specs.Layout.{rowsOf, cell, isGiven, parentIn, kindIn, unusedPorts, rowIn, modelRow, lent, omitsCapacity, omittedIn, modelWidth, connectorWidth, couplingWidth, connectorRow, couplingRow}
 use Rattle.table.specs.Readers.{rowOf}
 use Rattle.table.specs.Rows.{row-cell}
-use Rattle.capacities.specs.Migration.{withoutEnd, oldModelRow, oldLent, rowWrittenOut, joined, writtenOut}
-use Rattle.capacities.specs.Rows.{Omits, omits-says, short-reads, rows-next, row-long, written-next, written-short, written-none}
+use Rattle.capacities.specs.Migration.{withoutEnd, oldModelRow, oldLent, amended, rowWrittenOut, joined, writtenOut}
+use Rattle.capacities.specs.Rows.{Omits, omits-says, amended-long, short-reads, rows-next, row-long, written-next, written-short, written-none}
 
 -- ---- row by row
 long-row : (words : List ℕ) → 10 ≤ length words → length (rowWrittenOut (take 10 words)) ≡ 10
@@ -113,9 +113,6 @@ fields-then : (fields : ℕ) → fields < 8 → (fields / 2 % 2 ≡ 1 → ⊥) �
 fields-then fields l n = (omega arith, omega arith, omega arith)
 
 -- its words as the migration leaves them
-abbrev amended : List ℕ → List ℕ
-amended row = set (set row 2 (cell row 2 + 2)) 8 withoutEnd
-
 module _ (row : List ℕ) (omits : Omits row) where
   stays : (c : ℕ) → (c ≡ 2 → ⊥) → (c ≡ 8 → ⊥) → cell (amended row) c ≡ cell row c
   stays c a b = getD-set-other (set row 2 (cell row 2 + 2)) 8 c withoutEnd 0 b ∙ getD-set-other row 2 c (cell row 2 + 2) 0 a
@@ -128,11 +125,8 @@ module _ (row : List ℕ) (omits : Omits row) where
   word-8 : cell (amended row) 8 ≡ withoutEnd
   word-8 =
       let long = omits .long in
-      let wide = length-set row 2 (cell row 2 + 2) in
-      getD-set-same (set row 2 (cell row 2 + 2)) 8 withoutEnd 0 (omega arith)
-
-  amended-long : length (amended row) ≡ length row
-  amended-long = length-set (set row 2 (cell row 2 + 2)) 8 withoutEnd ∙ length-set row 2 (cell row 2 + 2)
+      let wide : 8 < length row = omega arith in
+      getD-set-same (set row 2 (cell row 2 + 2)) 8 withoutEnd 0 (lt-length-set row 2 (cell row 2 + 2) wide)
 
   amended-reads : modelRow (amended row) ≡ oldModelRow row
   amended-reads =
@@ -141,7 +135,7 @@ module _ (row : List ℕ) (omits : Omits row) where
       rw (
         stays 1 (λ e. omega arith) (λ e. omega arith),
         omits .kind,
-        amended-long,
+        amended-long row,
         word-2,
         lt-ltb (cell row 2 + 2) 8 (f .1),
         lt-ltb (cell row 2) 8 (omits .fields),
@@ -178,7 +172,7 @@ row-says row = by (omitsCapacity row) refl
     by true e =
         let o = omits-says row e in
         let f = fields-then (cell row 2) (o .fields) (o .not-given) in
-        rw (amended-long row o, o .long, stays row o 1 (λ e. omega arith) (λ e. omega arith), o .kind, word-2 row o, lt-ltb (cell row 2 + 2) 8 (f .1), f .0)
+        rw (amended-long row, o .long, stays row o 1 (λ e. omega arith) (λ e. omega arith), o .kind, word-2 row o, lt-ltb (cell row 2 + 2) 8 (f .1), f .0)
     by false e = e
 
 pub none-omits : (models : List ℕ) → omittedIn (writtenOut models) ≡ 0

@@ -29,8 +29,11 @@ oldLent models connectors couplings =
     record { rows = map oldModelRow (rowsOf modelWidth models); connectors = map connectorRow (rowsOf connectorWidth connectors); couplings = map couplingRow (rowsOf couplingWidth couplings) }
 
 -- ---- the migration: a row that omits the field gets its flag, and 2^64 - 1
+abbrev pub amended : List ℕ → List ℕ
+amended row = set (set row 2 (cell row 2 + 2)) 8 withoutEnd
+
 abbrev pub rowWrittenOut : List ℕ → List ℕ
-rowWrittenOut row = if omitsCapacity row then set (set row 2 (cell row 2 + 2)) 8 withoutEnd else row
+rowWrittenOut row = if omitsCapacity row then amended row else row
 
 -- rows put together again
 abbrev pub joined : List (List ℕ) → List ℕ

@@ -12,7 +12,7 @@ use lib.ListN.{length, set, take, drop, length-append, length-drop, length-set, 
 use lib.Seq.{take-all, take-at, drop-at, drop-drop, length-take-le}
 use Rattle.rules.specs.Base.{if_then_else_, those, hold}
 use Rattle.rules.specs.Layout.{cut, rowsOf, cell, isGiven, omitsCapacity, omittedIn}
-use Rattle.capacities.specs.Migration.{withoutEnd, rowWrittenOut, joined, writtenOut}
+use Rattle.capacities.specs.Migration.{withoutEnd, amended, rowWrittenOut, joined, writtenOut}
 
 -- ---- a slice is its first row and the rest
 enough : (most more : ℕ) {width : ℕ} (words : List ℕ) → 0 < width → length words ≤ most → length words ≤ more → cut most width words ≡ cut more width words
@@ -99,11 +99,17 @@ written-short words short =
     let none : drop 10 words ≡ [] = drop-of-length-le words {i = 10} (omega arith) in
     written-next words ∙ rw (whole, none, written-none, short-reads words short) (append-nil words)
 
+two-set : (row : List ℕ) (a b x y : ℕ) → length (set (set row a x) b y) ≡ length row
+two-set row a b x y = length-set (set row a x) b y ∙ length-set row a x
+
+pub amended-long : (row : List ℕ) → length (amended row) ≡ length row
+amended-long row = two-set row 2 8 _ withoutEnd
+
 pub row-long : (row : List ℕ) → length (rowWrittenOut row) ≡ length row
 row-long row = by (omitsCapacity row)
   where
-    by : (b : Bool) → length (if b then set (set row 2 (cell row 2 + 2)) 8 withoutEnd else row) ≡ length row
-    by true = length-set (set row 2 (cell row 2 + 2)) 8 withoutEnd ∙ length-set row 2 (cell row 2 + 2)
+    by : (b : Bool) → length (if b then amended row else row) ≡ length row
+    by true = amended-long row
     by false = refl
 
 -- ---- the count goes on by one row
