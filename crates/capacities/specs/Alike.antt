@@ -23,7 +23,7 @@ use Rattle.table.specs.Verdicts.{verdictOf}
 use Rattle.capacities.specs.Migration.{withoutEnd, oldCapacityIn, oldModelRow, oldLent, writtenOut}
 use Rattle.capacities.specs.Migrated.{reads-as-before}
 
--- ---- rows that intake cannot tell apart: the same but for a Processor's capacity, which may be larger in the second
+-- ---- rows that intake cannot tell apart: id, parent and kind are the same, and whether the kind keeps its rules; a Processor's capacity may be larger in the second
 pub data Wider : Kind → Kind → Type 0 where
   equal : (k : Kind) → Wider k k
   wider : (p q : Processor) → p .«queue_capacity» ≤ q .«queue_capacity» → Wider (processor p) (processor q)

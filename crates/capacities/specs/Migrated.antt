@@ -228,9 +228,9 @@ reads-otherwise row r e o f = by (every isPort (cell row 5 ∷ cell row 6 ∷ []
 
     by : (ports : Bool) → every isPort (cell row 5 ∷ cell row 6 ∷ []) ≡ ports → ⊥
     by true p =
-        let now : capacityOr (modelRow row) ≡ 32 = rw (says .kind, says .long, lt-ltb (cell row 2) 8 (says .fields), p, ne-eqb (cell row 2 / 2 % 2) 1 (says .not-given)) in
+        let now : capacityOr (modelRow row) ≡ omittedCapacity = rw (says .kind, says .long, lt-ltb (cell row 2) 8 (says .fields), p, ne-eqb (cell row 2 / 2 % 2) 1 (says .not-given)) in
         let old : capacityOr (oldModelRow row) ≡ withoutEnd = rw (says .kind, says .long, lt-ltb (cell row 2) 8 (says .fields), p, ne-eqb (cell row 2 / 2 % 2) 1 (says .not-given)) in
-        let same-number : 32 ≡ withoutEnd = sym now ∙ ap capacityOr f ∙ old in
+        let same-number : omittedCapacity ≡ withoutEnd = sym now ∙ ap capacityOr f ∙ old in
         omega arith
     by false p = let n : modelRow row ≡ none = rw (says .kind, says .long, lt-ltb (cell row 2) 8 (says .fields), p) in no-some (sym n ∙ e)
 

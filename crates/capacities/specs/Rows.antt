@@ -1,18 +1,20 @@
 -- The rows of a slice one by one: how many omit the field, and the slice as the migration leaves it. Assumes nothing.
 use Prim.Native.Nat.{ℕ, zero, suc, _+_, _/_, _%_, _≤_, _<_}
-use mathlib.Core.Path.{_≡_, refl, sym, ap, _∙_}
-use mathlib.Core.Logic.{_↔_}
-use mathlib.Core.Bool.{Bool, true, false, not, false≢true}
+use mathlib.Core.Path.{_≡_, refl, sym, ap, _∙_, subst}
+use mathlib.Core.Bool.{Bool, true, false}
 use mathlib.Core.List.{List, [], _∷_, _++_, map, append-nil, append-assoc}
 use native.Mathlib.Omega.{arith}
-use borrow.Rule.Slice.PartMut.{putMid}
-use borrow.Author.Tests.{ltb-true, lt-ltb, eqb-true, eqb-false, not-true, eq-eqb, ne-eqb}
-use lib.Dec.{ltb, eqb}
-use lib.ListN.{length, set, take, drop, length-append, length-drop, length-set, drop-of-length-le}
-use lib.Seq.{take-all, take-at, drop-at, drop-drop, length-take-le}
-use Rattle.rules.specs.Base.{if_then_else_, those, hold}
-use Rattle.rules.specs.Layout.{cut, rowsOf, cell, isGiven, omitsCapacity, omittedIn}
+use borrow.Author.Tests.{ne-eqb}
+use lib.Dec.{T}
+use lib.ListN.{length, set, take, drop, length-drop, length-set, drop-of-length-le}
+use lib.Seq.{take-all, drop-drop}
+use Rattle.rules.specs.Base.{if_then_else_, those}
+use Rattle.rules.specs.Decides.{Decides, tells, reads, fails, _and_, alone, below, same}
+use Rattle.rules.specs.Layout.{cut, rowsOf, cell, omitsCapacity, omittedIn}
+use Rattle.words.specs.Lists.{part-length}
+use Rattle.memory.specs.Words.{replaced}
 use Rattle.capacities.specs.Migration.{withoutEnd, amended, rowWrittenOut, joined, writtenOut}
+use Rattle.capacities.specs.Parts.{replaced-front, replaced-behind}
 
 -- ---- a slice is its first row and the rest
 enough : (most more : ℕ) {width : ℕ} (words : List ℕ) → 0 < width → length words ≤ most → length words ≤ more → cut most width words ≡ cut more width words
@@ -47,31 +49,20 @@ counted-next (x ∷ xs) =
     ap (λ (rows : List (List ℕ)). length (those omitsCapacity rows)) (rows-next 10 (x ∷ xs) (omega arith) (omega arith)) ∙ counted-more (take 10 (x ∷ xs)) (rowsOf 10 (drop 10 (x ∷ xs)))
 
 -- what a row that omits the field is
-four : (a b c d : Bool) → hold (a ∷ b ∷ c ∷ d ∷ []) ≡ true → (a ≡ true) × (b ≡ true) × (c ≡ true) × (d ≡ true)
-four true true true true h = (refl, refl, refl, refl)
-four true true true false h = absurd (false≢true h)
-four true true false d h = absurd (false≢true h)
-four true false c d h = absurd (false≢true h)
-four false b c d h = absurd (false≢true h)
-
 pub record Omits (row : List ℕ) : Type 0 where
   pub long : length row ≡ 10
   pub kind : cell row 1 ≡ 1
   pub fields : cell row 2 < 8
   pub not-given : cell row 2 / 2 % 2 ≡ 1 → ⊥
 
-pub omits-says : (row : List ℕ) → omitsCapacity row ≡ true → Omits row
-omits-says row e =
-    let h = four (eqb (length row) 10) (eqb (cell row 1) 1) (ltb (cell row 2) 8) (not (isGiven 2 row)) e in
-    record {
-      long = eqb-true (length row) 10 (h .0);
-      kind = eqb-true (cell row 1) 1 (h .1);
-      fields = ltb-true (cell row 2) 8 (h .2);
-      not-given = eqb-false (cell row 2 / 2 % 2) 1 (not-true (isGiven 2 row) (h .3));
-    }
+pub omits-decides : (row : List ℕ) → Decides (omitsCapacity row) (Omits row)
+omits-decides row =
+    reads
+    (same (length row) 10 and same (cell row 1) 1 and below (cell row 2) 8 and alone (fails (same (cell row 2 / 2 % 2) 1)))
+    (λ h. record { long = h .0; kind = h .1 .0; fields = h .1 .1 .0; not-given = h .1 .1 .1 }) (λ o. (o .long, (o .kind, (o .fields, o .not-given))))
 
-pub omits-exactly : (row : List ℕ) → (omitsCapacity row ≡ true) ↔ Omits row
-omits-exactly row = (omits-says row, λ o. rw (eq-eqb (length row) 10 (o .long), eq-eqb (cell row 1) 1 (o .kind), lt-ltb (cell row 2) 8 (o .fields), ne-eqb (cell row 2 / 2 % 2) 1 (o .not-given)))
+pub omits-says : (row : List ℕ) → omitsCapacity row ≡ true → Omits row
+omits-says row e = tells (omits-decides row) (subst T (sym e) tt)
 
 -- a row cut short omits nothing
 pub short-reads : (row : List ℕ) → length row < 10 → omitsCapacity row ≡ false
@@ -128,39 +119,14 @@ counted-one row = by (omitsCapacity row)
     by true = omega arith
     by false = omega arith
 
--- ---- one row written in its place: the rows behind it are as they were, and the whole comes to the same
+-- ---- one row written in its place: the whole comes to the same
 module _ (start : ℕ) (words row : List ℕ) (room : start + 10 ≤ length words) (e : row ≡ rowWrittenOut (take 10 (drop start words))) where
-  abbrev after : List ℕ
-  after = putMid start 10 words row
+  pub row-is-long : length row ≡ 10
+  row-is-long = ap length e ∙ row-long (take 10 (drop start words)) ∙ part-length start 10 words room
 
-  row-is-long : length row ≡ 10
-  row-is-long = let d = length-drop start words in ap length e ∙ row-long (take 10 (drop start words)) ∙ length-take-le 10 (drop start words) (omega arith)
-
-  front-long : length (take start words ++ row) ≡ start + 10
-  front-long = let a = length-append (take start words) row in let b = length-take-le start words (omega arith) in omega (arith, row-is-long)
-
-  regrouped : after ≡ (take start words ++ row) ++ drop 10 (drop start words)
-  regrouped = sym (append-assoc (take start words) row (drop 10 (drop start words)))
-
-  rest-stays : drop (start + 10) after ≡ drop 10 (drop start words)
-  rest-stays = ap (drop (start + 10)) regrouped ∙ drop-at (take start words ++ row) (drop 10 (drop start words)) (start + 10) front-long
-
-  pub rest-is : drop (start + 10) after ≡ drop (start + 10) words
-  rest-is = rest-stays ∙ drop-drop 10 start words
-
-  pub after-long : length after ≡ length words
-  after-long =
-      let a = length-append (take start words ++ row) (drop 10 (drop start words)) in
-      let b = length-drop 10 (drop start words) in
-      let d = length-drop start words in
-      ap length regrouped ∙ omega (arith, front-long)
-
-  front-is : take (start + 10) after ≡ take start words ++ row
-  front-is = ap (take (start + 10)) regrouped ∙ take-at (take start words ++ row) (drop 10 (drop start words)) (start + 10) front-long
-
-  pub whole-same : take (start + 10) after ++ writtenOut (drop (start + 10) after) ≡ take start words ++ writtenOut (drop start words)
+  pub whole-same : let after = replaced start 10 row words in take (start + 10) after ++ writtenOut (drop (start + 10) after) ≡ take start words ++ writtenOut (drop start words)
   whole-same =
-      (λ i. front-is i ++ writtenOut (rest-stays i))
+      (λ i. replaced-front start 10 row words room row-is-long i ++ writtenOut ((replaced-behind start 10 row words room row-is-long (start + 10) (omega arith) ∙ sym (drop-drop 10 start words)) i))
       ∙ append-assoc (take start words) row (writtenOut (drop 10 (drop start words)))
       ∙ ap (λ (z : List ℕ). take start words ++ (z ++ writtenOut (drop 10 (drop start words)))) e
       ∙ ap (λ (z : List ℕ). take start words ++ z) (sym (written-next (drop start words)))

@@ -1,11 +1,11 @@
 -- `capacities::omitted` meets its contract. The invariant: the count and the count of the rows left are that of all. Assumes nothing.
-use Prim.Native.Nat.{ℕ, _+_, _-_, _≤_}
+use Prim.Native.Nat.{_+_, _-_, _≤_}
 use mathlib.Core.Path.{_≡_, refl, ap, _∙_}
-use native.Mathlib.Nat.{add-sub-cancel-left}
 use native.Mathlib.Omega.{arith}
 use borrow.Author.Needs.{needs}
 use lib.ListN.{length, take, drop, length-drop}
 use Rattle.rules.specs.Layout.{omittedIn}
+use Rattle.memory.specs.Places.{lent-own}
 use Rattle.capacities.specs.Rows.{countedOf, counted-on, counted-one, counted-short}
 use Rattle.capacities.proofs.omitted.Statement.{statement}
 use Rattle.capacities.proofs.omitted.Tie as tie
@@ -49,8 +49,7 @@ row-lent : (c : tie.After-counted Inv-loop μ-loop)
     c .counted .result ≡ countedOf (take 10 (drop (l .loop .start) (l .before .before .args .models .now)))
 row-lent c =
     let l = c .before .before .before in
-    let models = l .before .before .args .models .now in
-    c .counted .ensures ∙ ap (λ (n : ℕ). countedOf (take n (drop (l .loop .start) models))) (add-sub-cancel-left (l .loop .start) 10)
+    c .counted .ensures ∙ ap countedOf (lent-own (l .loop .start) 10 (l .before .before .args .models .now))
 
 one-more : (c : tie.After-counted Inv-loop μ-loop) → c .counted .result ≤ 1
 one-more c =

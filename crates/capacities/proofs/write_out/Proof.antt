@@ -2,14 +2,14 @@
 use Prim.Native.Nat.{ℕ, _+_, _-_, _≤_, _<_}
 use mathlib.Core.Path.{_≡_, refl, sym, ap, _∙_, subst}
 use mathlib.Core.List.{List, _++_}
-use native.Mathlib.Nat.{add-sub-cancel-left}
 use native.Mathlib.Omega.{arith}
 use borrow.Author.Needs.{needs}
-use borrow.Rule.Slice.PartMut.{putMid}
 use lib.ListN.{length, take, drop, length-drop, take-append-drop}
 use Rattle.rules.specs.Layout.{omittedIn}
 use Rattle.capacities.specs.Migration.{rowWrittenOut, writtenOut}
-use Rattle.capacities.specs.Rows.{countedOf, counted-on, counted-one, counted-short, written-short, after-long, rest-is, whole-same}
+use Rattle.memory.specs.Places.{lent-own, put-back, replaced-length}
+use Rattle.capacities.specs.Parts.{replaced-behind}
+use Rattle.capacities.specs.Rows.{countedOf, counted-on, counted-one, counted-short, written-short, row-is-long, whole-same}
 use Rattle.capacities.proofs.write_out.Statement.{statement}
 use Rattle.capacities.proofs.write_out.Tie as tie
 
@@ -58,10 +58,8 @@ row-lent : (c : tie.After-write-row Inv-loop μ-loop)
     (c .write-row .result ≡ countedOf row) × (c .write-row .last .0 ≡ rowWrittenOut row)
 row-lent c =
     let l = c .before .before .before in
-    let wide = add-sub-cancel-left (l .loop .start) 10 in (
-      c .write-row .ensures .0 ∙ ap (λ (n : ℕ). countedOf (take n (drop (l .loop .start) (l .loop .models)))) wide,
-      c .write-row .ensures .1 ∙ ap (λ (n : ℕ). rowWrittenOut (take n (drop (l .loop .start) (l .loop .models)))) wide,
-    )
+    let lent = lent-own (l .loop .start) 10 (l .loop .models) in
+    (c .write-row .ensures .0 ∙ ap countedOf lent, c .write-row .ensures .1 ∙ ap rowWrittenOut lent)
 
 one-more : (c : tie.After-write-row Inv-loop μ-loop) → c .write-row .result ≤ 1
 one-more c =
@@ -81,20 +79,15 @@ add-start c =
     let l = w .before .before .before in
     omega (arith, within (w .before .before), l .loop .inv .1, l .before .before .good)
 
--- the models after it, with the width as it is
-placed : (c : tie.After-write-row Inv-loop μ-loop)
-    → let l = c .before .before .before in
-    putMid (l .loop .start) (l .loop .start + 10 - l .loop .start) (l .loop .models) (c .write-row .last .0) ≡ putMid (l .loop .start) 10 (l .loop .models) (c .write-row .last .0)
-placed c =
-    let l = c .before .before .before in
-    ap (λ (n : ℕ). putMid (l .loop .start) n (l .loop .models) (c .write-row .last .0)) (add-sub-cancel-left (l .loop .start) 10)
-
 loop-less : tie.Need-loop-less Inv-loop μ-loop
 loop-less c =
     let w = c .before .before in
     let l = w .before .before .before in
+    let start = l .loop .start in
+    let models = l .loop .models in
+    let row = w .write-row .last .0 in
     let room = within (w .before .before) in
-    let long = ap length (placed w) ∙ after-long (l .loop .start) (l .loop .models) (w .write-row .last .0) room (row-lent w .1) in
+    let long = ap length (put-back start 10 models row) ∙ replaced-length start 10 row models room (row-is-long start models row room (row-lent w .1)) in
     omega (arith, long, room)
 
 loop-again : tie.Need-loop-again Inv-loop μ-loop
@@ -106,14 +99,15 @@ loop-again c =
     let row = w .write-row .last .0 in
     let first = l .before .before .args .models .now in
     let room = within (w .before .before) in
-    let long = after-long start models row room (row-lent w .1) in
+    let ten = row-is-long start models row room (row-lent w .1) in
+    let long = replaced-length start 10 row models room ten in
     subst
     (λ (z : List ℕ). Inv-loop first 0 0 z (l .loop .count + w .write-row .result) (start + 10))
-    (sym (placed w)) (
+    (sym (put-back start 10 models row)) (
       omega (arith, long, room),
       long ∙ l .loop .inv .1,
       omega (arith, one-more w, l .loop .inv .2),
-      ap (λ (z : List ℕ). l .loop .count + w .write-row .result + omittedIn z) (rest-is start models row room (row-lent w .1))
+      ap (λ (z : List ℕ). l .loop .count + w .write-row .result + omittedIn z) (replaced-behind start 10 row models room ten (start + 10) (omega arith))
           ∙ counted-on start (l .loop .count) (w .write-row .result) (omittedIn first) models (take 10 (drop start models)) refl (row-lent w .0) (l .loop .inv .3),
       whole-same start models row room (row-lent w .1) ∙ l .loop .inv .4,
     )
