@@ -8,8 +8,8 @@ use Rattle.bench_lines.specs.declared.Word.{Word}
 use Rattle.bench_lines.specs.declared.Word.the-variants.{Nothing, Parent, In, Out, QueueCapacity, MaxBatchSize, MaxBatchTime, Start, Stop, Ask, Metric, Colon, To, Time, Content, Allowance}
 use Rattle.bench_lines.specs.declared.Value.{Value}
 use Rattle.bench_lines.specs.declared.Value.the-variants.{TheEnd, AnId, ASmall, AWhole, ATime, AMetric}
-use Rattle.bench_lines.specs.declared.Expected.{Expected}
-use Rattle.bench_lines.specs.declared.Expected.the-variants.{AnItem, TheWord, AValue, NoMore}
+use Rattle.bench_lines.specs.declared.Wanted.{Wanted}
+use Rattle.bench_lines.specs.declared.Wanted.the-variants.{AnItem, TheWord, AValue, NoMore}
 
 abbrev pub itemText : Item → List ℕ
 itemText Processor = padded (bytes "processor")
@@ -53,8 +53,8 @@ valueText AWhole = padded (bytes "a number below 2^64")
 valueText ATime = padded (bytes "a time")
 valueText AMetric = padded (bytes "minimum or maximum")
 
-abbrev pub expectedText : Expected → List ℕ
-expectedText AnItem = padded (bytes "a kind of item")
-expectedText (TheWord w) = wordText w
-expectedText (AValue v) = valueText v
-expectedText NoMore = padded (bytes "no more lines of this kind")
+abbrev pub wantedText : Wanted → List ℕ
+wantedText AnItem = padded (bytes "a kind of item")
+wantedText (TheWord w) = wordText w
+wantedText (AValue v) = valueText v
+wantedText NoMore = padded (bytes "no more lines of this kind")

@@ -1,12 +1,12 @@
--- How a line is read: its words against the form of its item. Definitions only. Assumes nothing.
-use Prim.Native.Nat.{ℕ}
+-- How a line is read: its words against the form of its item, and where it is wrong. Definitions only. Assumes nothing.
+use Prim.Native.Nat.{ℕ, suc}
 use mathlib.Core.Bool.{Bool, true, false}
 use mathlib.Core.List.{List, [], _∷_}
 use lib.ListN.{getD, set, drop, replicate}
 use lib.Dec.{eqb}
 use lib.Bits.{bitOr}
 use Rattle.rules.specs.Base.{if_then_else_}
-use Rattle.bench_words.specs.Splitting.{wordsOf}
+use Rattle.bench_words.specs.Splitting.{wordsOf, wordAt}
 use Rattle.bench_words.specs.Numbers.{numberOf, timeOf}
 use Rattle.bench_words.specs.Texts.{bytes, padded, same, textIn}
 use Rattle.bench_words.specs.declared.Number.{Number}
@@ -16,8 +16,9 @@ use Rattle.bench_lines.specs.declared.Word.{Word}
 use Rattle.bench_lines.specs.declared.Word.the-variants.{Nothing, Parent, In, Out, QueueCapacity, MaxBatchSize, MaxBatchTime, Start, Stop, Ask, Metric, Colon, To, Time, Content, Allowance}
 use Rattle.bench_lines.specs.declared.Value.{Value}
 use Rattle.bench_lines.specs.declared.Value.the-variants.{TheEnd, AnId, ASmall, AWhole, ATime, AMetric}
+use Rattle.bench_lines.specs.declared.Wanted.{Wanted}
+use Rattle.bench_lines.specs.declared.Wanted.the-variants.{AnItem, TheWord, AValue}
 use Rattle.bench_lines.specs.declared.Expected.{Expected}
-use Rattle.bench_lines.specs.declared.Expected.the-variants.{AnItem, TheWord, AValue}
 use Rattle.bench_lines.specs.declared.Fault.{Fault}
 use Rattle.bench_lines.specs.declared.Fault.the-variants.{Fine, Wrong}
 use Rattle.bench_lines.specs.declared.Field.{Field}
@@ -69,80 +70,95 @@ hasWord Time = true
 hasWord Content = true
 hasWord Allowance = true
 
+-- ---- what was expected
+-- this, or the optional word that may stand before it
+abbrev pub wants : Word → Wanted → Expected
+wants word what = record { or = word; what = what }
+
+-- just this
+abbrev pub only : Wanted → Expected
+only = wants Nothing
+
+-- the column of the next word from a place on, or of the line's end: the bytes count from 1
+abbrev pub columnAt : List ℕ → ℕ → ℕ
+columnAt line at = suc (wordAt line at .start)
+
 -- ---- fields
--- the cells and the words that are left, or what was expected
+-- the cells, how far the line is read, and the optional word that was left out just there; or what was expected, and where
 pub data Course : Type 0 where
-  on : List ℕ → List (List ℕ) → Course
-  failed : Expected → Course
+  on : List ℕ → ℕ → Word → Course
+  failed : Expected → ℕ → Course
 
 -- the row with a field's value in its cell, and the field's flag in word 2
 abbrev pub kept : Field → ℕ → List ℕ → List ℕ
 kept f value cells = set (set cells 2 (bitOr (getD cells 2 0) (f .flag))) (f .cell) value
 
-abbrev pub taken : Field → Number → List (List ℕ) → List ℕ → Course
-taken f (Is n) rest cells = on (kept f n cells) rest
-taken f Not rest cells = failed (AValue (f .value))
+-- `or` is the optional word that was left out before the field, `at` how far the line is read
+module _ (line : List ℕ) (f : Field) (or : Word) (at : ℕ) (cells : List ℕ) where
+  abbrev pub taken : Number → Course
+  taken (Is n) = on (kept f n cells) (wordAt line at .end) Nothing
+  taken Not = failed (wants or (AValue (f .value))) at
 
-abbrev pub readValue : Field → List (List ℕ) → List ℕ → Course
-readValue f [] cells = if isEnd (f .value) then on cells [] else failed (AValue (f .value))
-readValue f (word ∷ rest) cells = taken f (valueOf (f .value) word) rest cells
+  abbrev pub valueIn : List (List ℕ) → Course
+  valueIn [] = if isEnd (f .value) then on cells at Nothing else failed (wants or (AValue (f .value))) at
+  valueIn (word ∷ rest) = taken (valueOf (f .value) word)
 
--- a field that may not be left out is missing
-abbrev pub faultOf : Field → Fault
-faultOf f = if eqb (f .flag) 0 then Wrong (TheWord (f .word)) else Fine
+  abbrev pub readValue : Course
+  readValue = valueIn (wordsOf (drop at line))
 
-abbrev pub leftOut : Fault → List (List ℕ) → List ℕ → Course
-leftOut Fine words cells = on cells words
-leftOut (Wrong e) words cells = failed e
+-- a field whose word is not there: only one with a flag may be left out
+abbrev pub leftOut : Field → Word → ℕ → List ℕ → Course
+leftOut f or at cells = if eqb (f .flag) 0 then failed (wants or (TheWord (f .word))) at else on cells at (f .word)
 
-abbrev pub readAfter : Field → List (List ℕ) → List ℕ → Course
-readAfter f [] cells = leftOut (faultOf f) [] cells
-readAfter f (word ∷ rest) cells =
-    if same word (textIn (wordText (f .word))) then readValue f rest cells else leftOut (faultOf f) (word ∷ rest) cells
+-- a field with a word: behind the word, what was left out before it may no longer come
+abbrev pub afterIn : List ℕ → Field → Word → ℕ → List ℕ → List (List ℕ) → Course
+afterIn line f or at cells [] = leftOut f or at cells
+afterIn line f or at cells (word ∷ rest) =
+    if same word (textIn (wordText (f .word))) then readValue line f Nothing (wordAt line at .end) cells else leftOut f or at cells
 
-abbrev pub readField : Field → List (List ℕ) → List ℕ → Course
-readField f words cells = if hasWord (f .word) then readAfter f words cells else readValue f words cells
+abbrev pub readField : List ℕ → Field → Word → ℕ → List ℕ → Course
+readField line f or at cells = if hasWord (f .word) then afterIn line f or at cells (wordsOf (drop at line)) else readValue line f or at cells
 
-abbrev pub goOn : Course → (List (List ℕ) → List ℕ → Course) → Course
-goOn (on cells words) next = next words cells
-goOn (failed e) next = failed e
+abbrev pub goOn : Course → (Word → ℕ → List ℕ → Course) → Course
+goOn (on cells at or) next = next or at cells
+goOn (failed e at) next = failed e at
 
 -- the fields of a form in order
-abbrev pub readFields : List Field → List (List ℕ) → List ℕ → Course
-readFields [] words cells = on cells words
-readFields (f ∷ fs) words cells = goOn (readField f words cells) (readFields fs)
+abbrev pub readFields : List ℕ → List Field → Word → ℕ → List ℕ → Course
+readFields line [] or at cells = on cells at or
+readFields line (f ∷ fs) or at cells = goOn (readField line f or at cells) (readFields line fs)
 
 -- ---- a line
 abbrev zeros : List ℕ
 zeros = replicate 10 0
 
-abbrev pub lineEnded : Item → List ℕ → Fault → Line
-lineEnded item cells Fine = record { said = Said.Row item; cells = cells }
-lineEnded item cells (Wrong e) = record { said = Said.Wrong e; cells = zeros }
+-- what is wrong from a place on
+abbrev pub wrongAt : List ℕ → Expected → ℕ → Line
+wrongAt line e at = record { said = Said.Wrong e; column = columnAt line at; cells = zeros }
 
-abbrev pub lineOf : Item → Course → Line
-lineOf item (on cells words) = record { said = Said.Row item; cells = cells }
-lineOf item (failed e) = record { said = Said.Wrong e; cells = zeros }
+abbrev pub lineOf : List ℕ → Item → Course → Line
+lineOf line item (on cells at or) = record { said = Said.Row item; column = columnAt line 0; cells = cells }
+lineOf line item (failed e at) = wrongAt line e at
 
-abbrev pub readItem : Named → List (List ℕ) → Line
-readItem (Named.Is item) words = lineOf item (readFields (fieldsIn (formOf item)) words (startOf item))
-readItem Named.Nobody words = record { said = Said.Wrong AnItem; cells = zeros }
+abbrev pub readItem : List ℕ → Named → Line
+readItem line (Named.Is item) = lineOf line item (readFields line (fieldsIn (formOf item)) Nothing (wordAt line 0 .end) (startOf item))
+readItem line Named.Nobody = wrongAt line (only AnItem) 0
 
-abbrev pub readWords : List (List ℕ) → Line
-readWords [] = record { said = Said.Nothing; cells = zeros }
-readWords (name ∷ words) = readItem (itemNamed name items) words
+abbrev pub readWords : List ℕ → List (List ℕ) → Line
+readWords line [] = record { said = Said.Nothing; column = columnAt line 0; cells = zeros }
+readWords line (name ∷ words) = readItem line (itemNamed name items)
 
 -- what a line says: nothing, or the item that its first word names, with its fields
 unfoldable pub readLine : List ℕ → Line
-readLine line = readWords (wordsOf line)
+readLine line = readWords line (wordsOf line)
 
 -- ---- how far the code is
-abbrev pub courseAt : List ℕ → List ℕ → ℕ → Fault → Course
-courseAt line cells at Fine = on cells (wordsOf (drop at line))
-courseAt line cells at (Wrong e) = failed e
+abbrev pub courseAt : List ℕ → ℕ → Word → Fault → Course
+courseAt cells at or Fine = on cells at or
+courseAt cells at or (Wrong e) = failed e at
 
-abbrev pub courseOf : List ℕ → Progress → Course
-courseOf line p = courseAt line (p .cells) (p .at) (p .fault)
+abbrev pub courseOf : Progress → Course
+courseOf p = courseAt (p .cells) (p .at) (p .or) (p .fault)
 
-abbrev pub progressAt : List ℕ → ℕ → Fault → Progress
-progressAt cells at fault = record { cells = cells; at = at; fault = fault }
+abbrev pub progressAt : List ℕ → ℕ → Word → Fault → Progress
+progressAt cells at or fault = record { cells = cells; at = at; or = or; fault = fault }

@@ -1,12 +1,14 @@
-// One line of a bench file: its item and the cells of its row, or what was expected. The format: docs/BENCH-FILE.md.
+// One line of a bench file: its item and the cells of its row, or what was expected and where. The format: docs/BENCH-FILE.md.
 use bench_words::Number;
 ghost use mathlib.Core.Path.{_≡_};
 ghost use Prim.Native.Nat.{_<_, _≤_};
-ghost use lib.ListN.{length, drop};
-ghost use Rattle.bench_words.specs.Splitting.{wordsOf};
-ghost use Rattle.bench_lines.specs.Names.{itemText, wordText, valueText, expectedText};
+ghost use lib.ListN.{length};
+ghost use Rattle.bench_lines.specs.Names.{itemText, wordText, valueText, wantedText};
 ghost use Rattle.bench_lines.specs.Forms.{startOf, formOf, wordCoded, valueCoded, fieldsIn, fieldCoded, itemNamed, items};
-ghost use Rattle.bench_lines.specs.Reading.{hasWord, isEnd, metricOf, valueOf, kept, faultOf, progressAt, courseOf, readValue, readField, readFields, lineEnded, readLine};
+ghost use Rattle.bench_lines.specs.Reading.{hasWord, isEnd, metricOf, valueOf, kept, wants, progressAt, columnAt, courseOf, readValue, leftOut, readField, readFields, wrongAt, lineOf, readLine};
+ghost use Rattle.bench_lines.specs.Reading.{only as Reading·only};
+ghost use Rattle.bench_lines.specs.declared.Word.the-variants as Words;
+ghost use Rattle.bench_lines.specs.declared.Fault.the-variants as Faults;
 
 // What a line can say.
 pub enum Item {
@@ -56,12 +58,18 @@ pub enum Value {
     AMetric,
 }
 
-// What was expected where a line is wrong.
-pub enum Expected {
+// What must stand where a line is wrong.
+pub enum Wanted {
     AnItem,
     TheWord(Word),
     AValue(Value),
     NoMore,
+}
+
+// What was expected: what must stand there, or the optional word that may stand before it (Nothing: none may).
+pub struct Expected {
+    pub or: Word,
+    pub what: Wanted,
 }
 
 pub enum Fault {
@@ -84,8 +92,10 @@ pub enum Said {
     Wrong(Expected),
 }
 
+// What a line says, and the column where it stands: that of the item, or of what is wrong. Columns count bytes from 1.
 pub struct Line {
     pub said: Said,
+    pub column: usize,
     pub cells: [u64; 10],
 }
 
@@ -94,10 +104,11 @@ enum Named {
     Nobody,
 }
 
-// How far a line is read.
+// How far a line is read, and the optional word that was left out just there.
 struct Progress {
     cells: [u64; 10],
     at: usize,
+    or: Word,
     fault: Fault,
 }
 
@@ -213,7 +224,7 @@ fn item_text(item: Item) -> [u8; 32]
     }
 }
 
-fn word_text(word: Word) -> [u8; 32]
+pub fn word_text(word: Word) -> [u8; 32]
     ensures { λ r. ⌜ r ≡ wordText word ⌝ }
 {
     match word {
@@ -249,15 +260,25 @@ fn value_text(value: Value) -> [u8; 32]
     }
 }
 
-// What a program can print after "expected: ", filled up with dots to 32 bytes.
-pub fn expected_text(expected: Expected) -> [u8; 32]
-    ensures { λ r. ⌜ r ≡ expectedText expected ⌝ }
+// What a program can print after "expected ", filled up with dots to 32 bytes.
+pub fn wanted_text(wanted: Wanted) -> [u8; 32]
+    ensures { λ r. ⌜ r ≡ wantedText wanted ⌝ }
 {
-    match expected {
-        Expected::AnItem => *b"a kind of item..................",
-        Expected::TheWord(word) => word_text(word),
-        Expected::AValue(value) => value_text(value),
-        Expected::NoMore => *b"no more lines of this kind......",
+    match wanted {
+        Wanted::AnItem => *b"a kind of item..................",
+        Wanted::TheWord(word) => word_text(word),
+        Wanted::AValue(value) => value_text(value),
+        Wanted::NoMore => *b"no more lines of this kind......",
+    }
+}
+
+// Just this, and no optional word.
+pub fn only(wanted: Wanted) -> Expected
+    ensures { λ r. ⌜ r ≡ Reading·only wanted ⌝ }
+{
+    Expected {
+        or: Word::Nothing,
+        what: wanted,
     }
 }
 
@@ -390,10 +411,33 @@ fn keep(cells: [u64; 10], field: Field, value: u64) -> [u64; 10]
     row
 }
 
-// The value of a field, from `at` on.
-fn read_value(line: &[u8], at: usize, cells: [u64; 10], field: Field) -> Progress
+// What was expected where a field is wrong.
+fn wrong(cells: [u64; 10], at: usize, or: Word, what: Wanted) -> Progress
+    ensures { λ r. ⌜ r ≡ progressAt cells at or (Faults.Wrong (wants or what)) ⌝ }
+{
+    Progress {
+        cells,
+        at,
+        or,
+        fault: Fault::Wrong(Expected { or, what }),
+    }
+}
+
+fn fine(cells: [u64; 10], at: usize, or: Word) -> Progress
+    ensures { λ r. ⌜ r ≡ progressAt cells at or Faults.Fine ⌝ }
+{
+    Progress {
+        cells,
+        at,
+        or,
+        fault: Fault::Fine,
+    }
+}
+
+// The value of a field, from `at` on; `or` was left out before it.
+fn read_value(line: &[u8], at: usize, or: Word, cells: [u64; 10], field: Field) -> Progress
     requires { ⌜ at ≤ length (now line) ⌝ }
-    ensures { λ r. ⌜ (r .at ≤ length (now (line .entry))) × (courseOf (now (line .entry)) r ≡ readValue field (wordsOf (drop at (now (line .entry)))) cells) ⌝ }
+    ensures { λ r. ⌜ (r .at ≤ length (now (line .entry))) × (courseOf r ≡ readValue (now (line .entry)) field or at cells) ⌝ }
 {
     let value = field.value;
     let span = bench_words::next_word(line, at);
@@ -401,87 +445,64 @@ fn read_value(line: &[u8], at: usize, cells: [u64; 10], field: Field) -> Progres
     let end = span.end;
     if end <= start {
         if is_end(value) {
-            return Progress {
-                cells,
-                at,
-                fault: Fault::Fine,
-            };
+            return fine(cells, at, Word::Nothing);
         }
-        return Progress {
-            cells,
-            at,
-            fault: Fault::Wrong(Expected::AValue(value)),
-        };
+        return wrong(cells, at, or, Wanted::AValue(value));
     }
     match value_of(&line[start..end], value) {
         Number::Is(n) => {
             let row = keep(cells, field, n);
-            Progress {
-                cells: row,
-                at: end,
-                fault: Fault::Fine,
-            }
+            fine(row, end, Word::Nothing)
         }
-        Number::Not => Progress {
-            cells,
-            at,
-            fault: Fault::Wrong(Expected::AValue(value)),
-        },
+        Number::Not => wrong(cells, at, or, Wanted::AValue(value)),
     }
 }
 
 // A field whose word is not there.
-fn left_out(at: usize, cells: [u64; 10], field: Field) -> Progress
-    ensures { λ r. ⌜ r ≡ progressAt cells at (faultOf field) ⌝ }
+fn left_out(at: usize, or: Word, cells: [u64; 10], field: Field) -> Progress
+    ensures { λ r. ⌜ (r .at ≡ at) × (courseOf r ≡ leftOut field or at cells) ⌝ }
 {
     let word = field.word;
     if field.flag == 0 {
-        return Progress {
-            cells,
-            at,
-            fault: Fault::Wrong(Expected::TheWord(word)),
-        };
+        return wrong(cells, at, or, Wanted::TheWord(word));
     }
-    Progress {
-        cells,
-        at,
-        fault: Fault::Fine,
-    }
+    fine(cells, at, word)
 }
 
-// A field, from `at` on: its word, if it has one, and then its value.
-fn read_field(line: &[u8], at: usize, cells: [u64; 10], field: Field) -> Progress
+// A field, from `at` on: its word, if it has one, and then its value. `or` was left out before it.
+fn read_field(line: &[u8], at: usize, or: Word, cells: [u64; 10], field: Field) -> Progress
     requires { ⌜ at ≤ length (now line) ⌝ }
-    ensures { λ r. ⌜ (r .at ≤ length (now (line .entry))) × (courseOf (now (line .entry)) r ≡ readField field (wordsOf (drop at (now (line .entry)))) cells) ⌝ }
+    ensures { λ r. ⌜ (r .at ≤ length (now (line .entry))) × (courseOf r ≡ readField (now (line .entry)) field or at cells) ⌝ }
 {
     let word = field.word;
     if !has_word(word) {
-        return read_value(line, at, cells, field);
+        return read_value(line, at, or, cells, field);
     }
     let span = bench_words::next_word(line, at);
     let start = span.start;
     let end = span.end;
     if end <= start {
-        return left_out(at, cells, field);
+        return left_out(at, or, cells, field);
     }
     if bench_words::is_text(&line[start..end], word_text(word)) {
-        return read_value(line, end, cells, field);
+        return read_value(line, end, Word::Nothing, cells, field);
     }
-    left_out(at, cells, field)
+    left_out(at, or, cells, field)
 }
 
 // The fields of an item, from `from` on.
 fn read_form(line: &[u8], from: usize, item: Item) -> Progress
     requires { ⌜ from ≤ length (now line) ⌝ }
-    ensures { λ r. ⌜ courseOf (now (line .entry)) r ≡ readFields (fieldsIn (formOf item)) (wordsOf (drop from (now (line .entry)))) (startOf item) ⌝ }
+    ensures { λ r. ⌜ (r .at ≤ length (now (line .entry))) × (courseOf r ≡ readFields (now (line .entry)) (fieldsIn (formOf item)) Words.Nothing from (startOf item)) ⌝ }
 {
     let form = form_of(item);
     let mut cells = start_of(item);
     let mut at = from;
+    let mut or = Word::Nothing;
     let mut k: usize = 0;
     while k < 8 {
         let field = field_in(form, k);
-        let progress = read_field(line, at, cells, field);
+        let progress = read_field(line, at, or, cells, field);
         let fault = progress.fault;
         match fault {
             Fault::Wrong(_) => return progress,
@@ -489,20 +510,37 @@ fn read_form(line: &[u8], from: usize, item: Item) -> Progress
                 let row = progress.cells;
                 cells = row;
                 at = progress.at;
+                or = progress.or;
                 k += 1;
             }
         }
     }
-    Progress {
-        cells,
-        at,
-        fault: Fault::Fine,
+    fine(cells, at, or)
+}
+
+// The column of the next word from a place on, or of the line's end.
+fn column_at(line: &[u8], at: usize) -> usize
+    requires { ⌜ at ≤ length (now line) ⌝ }
+    ensures { λ r. ⌜ r ≡ columnAt (now (line .entry)) at ⌝ }
+{
+    bench_words::next_word(line, at).start + 1
+}
+
+fn wrong_at(line: &[u8], expected: Expected, at: usize) -> Line
+    requires { ⌜ at ≤ length (now line) ⌝ }
+    ensures { λ r. ⌜ r ≡ wrongAt (now (line .entry)) expected at ⌝ }
+{
+    Line {
+        said: Said::Wrong(expected),
+        column: column_at(line, at),
+        cells: [0; 10],
     }
 }
 
 // What a line says whose item is read so far.
-fn ended(item: Item, progress: Progress) -> Line
-    ensures { λ r. ⌜ r ≡ lineEnded item (progress .cells) (progress .fault) ⌝ }
+fn ended(line: &[u8], item: Item, progress: Progress) -> Line
+    requires { ⌜ progress .at ≤ length (now line) ⌝ }
+    ensures { λ r. ⌜ r ≡ lineOf (now (line .entry)) item (courseOf progress) ⌝ }
 {
     let fault = progress.fault;
     match fault {
@@ -510,17 +548,15 @@ fn ended(item: Item, progress: Progress) -> Line
             let cells = progress.cells;
             Line {
                 said: Said::Row(item),
+                column: column_at(line, 0),
                 cells,
             }
         }
-        Fault::Wrong(e) => Line {
-            said: Said::Wrong(e),
-            cells: [0; 10],
-        },
+        Fault::Wrong(e) => wrong_at(line, e, progress.at),
     }
 }
 
-// What a line says: its item with the cells of its row, or what was expected.
+// What a line says: its item with the cells of its row, or what was expected and where.
 pub fn read_line(line: &[u8]) -> Line
     ensures { λ r. ⌜ r ≡ readLine (now (line .entry)) ⌝ }
 {
@@ -530,14 +566,12 @@ pub fn read_line(line: &[u8]) -> Line
     if end <= start {
         return Line {
             said: Said::Nothing,
+            column: column_at(line, 0),
             cells: [0; 10],
         };
     }
     match item_of(&line[start..end]) {
-        Named::Is(item) => ended(item, read_form(line, end, item)),
-        Named::Nobody => Line {
-            said: Said::Wrong(Expected::AnItem),
-            cells: [0; 10],
-        },
+        Named::Is(item) => ended(line, item, read_form(line, end, item)),
+        Named::Nobody => wrong_at(line, only(Wanted::AnItem), 0),
     }
 }

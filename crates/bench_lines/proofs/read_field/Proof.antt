@@ -3,12 +3,12 @@ use mathlib.Core.Path.{sym, ap, _∙_}
 use native.Mathlib.Omega.{arith}
 use borrow.Author.Tests.{not-true, not-false}
 use Rattle.bench_words.specs.Texts.{same, textIn}
-use Rattle.bench_words.specs.Splitting.{wordsOf}
 use Rattle.bench_words.specs.SplittingLaws.{word-none, word-some, word-inside}
 use Prim.Native.Nat.{_-_}
 use lib.ListN.{take, drop}
-use Rattle.bench_lines.specs.Reading.{faultOf}
-use Rattle.bench_lines.specs.ReadingLaws.{left-course, field-bare, field-none, field-other, field-there}
+use Rattle.bench_lines.specs.Reading.{readValue}
+use Rattle.bench_lines.specs.declared.Word.the-variants.{Nothing}
+use Rattle.bench_lines.specs.ReadingLaws.{field-bare, field-none, field-other, field-there}
 use borrow.Author.Needs.{needs}
 use Rattle.bench_lines.proofs.read_field.Statement.{statement}
 use Rattle.bench_lines.proofs.read_field.Tie as tie
@@ -22,7 +22,7 @@ read-value-requires c κs = search needs
 returns : tie.Need-returns
 returns c =
     let a = (c .before .before .before .before) .args in
-    ((c .read-value) .ensures .0, (c .read-value) .ensures .1 ∙ sym (field-bare (a .field) (wordsOf (drop (a .at) (a .line .now))) (a .cells) (sym ((c .before .before .has-word) .ensures) ∙ not-true _ ((c .before .if1) .taken))))
+    ((c .read-value) .ensures .0, (c .read-value) .ensures .1 ∙ sym (field-bare (a .line .now) (a .field) (a .or) (a .at) (a .cells) (sym ((c .before .before .has-word) .ensures) ∙ not-true _ ((c .before .if1) .taken))))
 
 next-word-requires : tie.Need-next-word-requires
 next-word-requires c κs = search needs
@@ -35,7 +35,7 @@ returns-2 c =
     let a = (c .before .before .before .before .before .before) .args in
     let n = (c .before .before .next-word) in
     let named = sym ((c .before .before .before .before .has-word) .ensures) ∙ not-false _ ((c .before .before .before .if1) .left) in
-    rw ((c .left-out) .ensures) ((c .before .before .before .before .before .before) .pre, left-course (a .line .now) (a .cells) (a .at) (faultOf (a .field)) ∙ sym (field-none (a .field) (wordsOf (drop (a .at) (a .line .now))) (a .cells) named (word-none (a .line .now) (a .at) (n .result) (n .ensures) ((c .before .if2) .taken))))
+    (omega (arith, (c .left-out) .ensures .0, (c .before .before .before .before .before .before) .pre), (c .left-out) .ensures .1 ∙ sym (field-none (a .line .now) (a .field) (a .or) (a .at) (a .cells) named (word-none (a .line .now) (a .at) (n .result) (n .ensures) ((c .before .if2) .taken))))
 
 sub-is-text : tie.Need-sub-is-text
 sub-is-text c = search needs
@@ -68,7 +68,8 @@ returns-3 c =
     let named = sym ((c .before .before .before .before .before .before .before .before .has-word) .ensures) ∙ not-false _ ((c .before .before .before .before .before .before .before .if1) .left) in
     let w = take (n .result .end - n .result .start) (drop (n .result .start) (a .line .now)) in
     let is = sym ((c .before .before .is-text) .ensures ∙ ap (λ t. same w (textIn t)) ((c .before .before .before .word-text) .ensures)) ∙ (c .before .if3) .taken in
-    ((c .read-value2) .ensures .0, (c .read-value2) .ensures .1 ∙ sym (field-there (a .field) (wordsOf (drop (a .at) (a .line .now))) (a .cells) named _ _ (word-some (a .line .now) (a .at) (n .result) (n .ensures) ((c .before .before .before .before .before .if2) .left)) is))
+    let some = word-some (a .line .now) (a .at) (n .result) (n .ensures) ((c .before .before .before .before .before .if2) .left) in
+    ((c .read-value2) .ensures .0, (c .read-value2) .ensures .1 ∙ ap (λ s. readValue (a .line .now) (a .field) Nothing (s .end) (a .cells)) (n .ensures) ∙ sym (field-there (a .line .now) (a .field) (a .or) (a .at) (a .cells) named _ _ some is))
 
 left-out-requires-2 : tie.Need-left-out-requires-2
 left-out-requires-2 c κs = search needs
@@ -80,7 +81,8 @@ returns-4 c =
     let named = sym ((c .before .before .before .before .before .before .before .before .has-word) .ensures) ∙ not-false _ ((c .before .before .before .before .before .before .before .if1) .left) in
     let w = take (n .result .end - n .result .start) (drop (n .result .start) (a .line .now)) in
     let is = sym ((c .before .before .is-text) .ensures ∙ ap (λ t. same w (textIn t)) ((c .before .before .before .word-text) .ensures)) ∙ (c .before .if3) .left in
-    rw ((c .left-out2) .ensures) ((c .before .before .before .before .before .before .before .before .before .before) .pre, left-course (a .line .now) (a .cells) (a .at) (faultOf (a .field)) ∙ sym (field-other (a .field) (wordsOf (drop (a .at) (a .line .now))) (a .cells) named _ _ (word-some (a .line .now) (a .at) (n .result) (n .ensures) ((c .before .before .before .before .before .if2) .left)) is))
+    let some = word-some (a .line .now) (a .at) (n .result) (n .ensures) ((c .before .before .before .before .before .if2) .left) in
+    (omega (arith, (c .left-out2) .ensures .0, (c .before .before .before .before .before .before .before .before .before .before) .pre), (c .left-out2) .ensures .1 ∙ sym (field-other (a .line .now) (a .field) (a .or) (a .at) (a .cells) named _ _ some is))
 
 pub read-field-spec : {M : Type 1} → statement M
 read-field-spec =

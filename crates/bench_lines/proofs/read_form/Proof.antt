@@ -4,7 +4,6 @@ use mathlib.Core.Path.{_≡_, refl, sym, ap, _∙_}
 use Prim.Native.Nat.{_+_, _*_, _-_, _≤_}
 use native.Mathlib.Omega.{arith}
 use lib.ListN.{length, drop, drop-of-length-le}
-use Rattle.bench_words.specs.Splitting.{wordsOf}
 use mathlib.Core.List.{[]}
 use Rattle.bench_lines.specs.Forms.{fieldsIn, fieldCoded}
 use Rattle.bench_lines.specs.Reading.{readField, readFields}
@@ -13,11 +12,11 @@ use Rattle.bench_lines.proofs.read_form.Statement.{statement}
 use Rattle.bench_lines.proofs.read_form.Tie as tie
 
 abbrev Inv-loop : tie.InvT-loop
-Inv-loop line from form cells₀ at₀ k₀ cells at k =
-    (k ≤ 8) × (at ≤ length line) × (readFields (fieldsIn (drop (k * 4) form)) (wordsOf (drop at line)) cells ≡ readFields (fieldsIn form) (wordsOf (drop from line)) cells₀)
+Inv-loop line from form cells₀ at₀ or₀ k₀ cells at or k =
+    (k ≤ 8) × (at ≤ length line) × (readFields line (fieldsIn (drop (k * 4) form)) or at cells ≡ readFields line (fieldsIn form) or₀ from cells₀)
 
 abbrev μ-loop : tie.MeasureT-loop
-μ-loop line from form cells₀ at₀ k₀ cells at k = 8 - k
+μ-loop line from form cells₀ at₀ or₀ k₀ cells at or k = 8 - k
 
 form-of-requires : tie.Need-form-of-requires Inv-loop μ-loop
 form-of-requires c κs = search needs
@@ -39,15 +38,15 @@ enum-told c = search needs
 
 returns : tie.Need-returns Inv-loop μ-loop
 returns c =
-    let a = (c .before .before .before .before .before .before .before .before .before) .args in
+    let line = (c .before .before .before .before .before .before .before .before .before) .args .line .now in
     let l = (c .before .before .before .before .before .loop) in
     let form = (c .before .before .before .before .before .before .before .form-of) .result in
     let f = (c .before .before .read-field) in
     let whole : length form ≡ 32 = search needs in
     let next = field-next form (l .k) (omega arith) in
-    let read = f .ensures .1 ∙ ap (λ d. readField d (wordsOf (drop (l .at) (a .line .now))) (l .cells)) ((c .before .before .before .field-in) .ensures) in
-    let fails = fields-fail (a .line .now) (fieldCoded form (l .k)) (fieldsIn (drop ((l .k + 1) * 4) form)) (wordsOf (drop (l .at) (a .line .now))) (l .cells) (f .result .cells) (f .result .at) (f .result .fault) _ ((c .enum-told) .given .1) read in
-    fails ∙ ap (λ fs. readFields fs (wordsOf (drop (l .at) (a .line .now))) (l .cells)) (sym next) ∙ l .inv .2 ∙ rw ((c .before .before .before .before .before .before .before .form-of) .ensures, (c .before .before .before .before .before .before .start-of) .ensures)
+    let read = f .ensures .1 ∙ ap (λ d. readField line d (l .or) (l .at) (l .cells)) ((c .before .before .before .field-in) .ensures) in
+    let fails = fields-fail line (fieldCoded form (l .k)) (fieldsIn (drop ((l .k + 1) * 4) form)) (l .or) (l .at) (l .cells) (f .result) read _ ((c .enum-told) .given .1) in
+    (f .ensures .0, fails ∙ ap (λ fs. readFields line fs (l .or) (l .at) (l .cells)) (sym next) ∙ l .inv .2 ∙ rw ((c .before .before .before .before .before .before .before .form-of) .ensures, (c .before .before .before .before .before .before .start-of) .ensures))
 
 enum-told-2 : tie.Need-enum-told-2 Inv-loop μ-loop
 enum-told-2 c = search needs
@@ -60,24 +59,26 @@ loop-less c = search needs
 
 loop-again : tie.Need-loop-again Inv-loop μ-loop
 loop-again c =
-    let a = (c .before .before .before .before .before .before .before .before .before .before) .args in
+    let line = (c .before .before .before .before .before .before .before .before .before .before) .args .line .now in
     let l = (c .before .before .before .before .before .before .loop) in
     let form = (c .before .before .before .before .before .before .before .before .form-of) .result in
     let f = (c .before .before .before .read-field) in
     let whole : length form ≡ 32 = search needs in
     let next = field-next form (l .k) (omega arith) in
-    let read = f .ensures .1 ∙ ap (λ d. readField d (wordsOf (drop (l .at) (a .line .now))) (l .cells)) ((c .before .before .before .before .field-in) .ensures) in
-    let goes = fields-on (a .line .now) (fieldCoded form (l .k)) (fieldsIn (drop ((l .k + 1) * 4) form)) (wordsOf (drop (l .at) (a .line .now))) (l .cells) (f .result .cells) (f .result .at) (f .result .fault) ((c .before .enum-told2) .given .1) read in
-    (omega arith, f .ensures .0, sym (ap (λ fs. readFields fs (wordsOf (drop (l .at) (a .line .now))) (l .cells)) next ∙ goes) ∙ l .inv .2)
+    let read = f .ensures .1 ∙ ap (λ d. readField line d (l .or) (l .at) (l .cells)) ((c .before .before .before .before .field-in) .ensures) in
+    let goes = fields-on line (fieldCoded form (l .k)) (fieldsIn (drop ((l .k + 1) * 4) form)) (l .or) (l .at) (l .cells) (f .result) read ((c .before .enum-told2) .given .1) in
+    (omega arith, f .ensures .0, sym (ap (λ fs. readFields line fs (l .or) (l .at) (l .cells)) next ∙ goes) ∙ l .inv .2)
+
+fine-requires : tie.Need-fine-requires Inv-loop μ-loop
+fine-requires c κs = search needs
 
 returns-2 : tie.Need-returns-2 Inv-loop μ-loop
 returns-2 c =
-    let a = (c .before .before .before .before .before) .args in
-    let l = (c .before .loop) in
-    let form = (c .before .before .before .form-of) .result in
+    let l = (c .before .before .loop) in
+    let form = (c .before .before .before .before .form-of) .result in
     let whole : length form ≡ 32 = search needs in
     let done : drop (l .k * 4) form ≡ [] = drop-of-length-le form {i = l .k * 4} (omega arith) in
-    (rw done at (l .inv .2)) ∙ rw ((c .before .before .before .form-of) .ensures, (c .before .before .start-of) .ensures)
+    rw ((c .fine) .ensures) (l .inv .1, (rw done at (l .inv .2)) ∙ rw ((c .before .before .before .before .form-of) .ensures, (c .before .before .before .start-of) .ensures))
 
 pub read-form-spec : {M : Type 1} → statement M
 read-form-spec =
@@ -96,4 +97,5 @@ read-form-spec =
     add-k
     loop-less
     loop-again
+    fine-requires
     returns-2)

@@ -1,5 +1,5 @@
 -- `bench_lines::read_value` meets its contract, by the next word. Assumes nothing.
-use mathlib.Core.Path.{sym, _∙_}
+use mathlib.Core.Path.{sym, ap, _∙_}
 use native.Mathlib.Omega.{arith}
 use Rattle.bench_words.specs.SplittingLaws.{word-none, word-some, word-inside}
 use borrow.Author.Needs.{needs}
@@ -12,17 +12,23 @@ next-word-requires c κs = search needs
 is-end-requires : tie.Need-is-end-requires
 is-end-requires c κs = search needs
 
+fine-requires : tie.Need-fine-requires
+fine-requires c κs = search needs
+
 returns : tie.Need-returns
 returns c =
-    let a = (c .before .before .before .before .before) .args in
-    let n = (c .before .before .before .next-word) in
-    ((c .before .before .before .before .before) .pre, rw (word-none (a .line .now) (a .at) (n .result) (n .ensures) ((c .before .before .if1) .taken), sym ((c .before .is-end) .ensures) ∙ (c .if2) .taken))
+    let a = (c .before .before .before .before .before .before) .args in
+    let n = (c .before .before .before .before .next-word) in
+    rw ((c .fine) .ensures) ((c .before .before .before .before .before .before) .pre, rw (word-none (a .line .now) (a .at) (n .result) (n .ensures) ((c .before .before .before .if1) .taken), sym ((c .before .before .is-end) .ensures) ∙ (c .before .if2) .taken))
+
+wrong-requires : tie.Need-wrong-requires
+wrong-requires c κs = search needs
 
 returns-2 : tie.Need-returns-2
 returns-2 c =
-    let a = (c .before .before .before .before .before) .args in
-    let n = (c .before .before .before .next-word) in
-    ((c .before .before .before .before .before) .pre, rw (word-none (a .line .now) (a .at) (n .result) (n .ensures) ((c .before .before .if1) .taken), sym ((c .before .is-end) .ensures) ∙ (c .if2) .left))
+    let a = (c .before .before .before .before .before .before) .args in
+    let n = (c .before .before .before .before .next-word) in
+    rw ((c .wrong) .ensures) ((c .before .before .before .before .before .before) .pre, rw (word-none (a .line .now) (a .at) (n .result) (n .ensures) ((c .before .before .before .if1) .taken), sym ((c .before .before .is-end) .ensures) ∙ (c .before .if2) .left))
 
 sub-value-of : tie.Need-sub-value-of
 sub-value-of c = search needs
@@ -45,20 +51,28 @@ enum-known-n c = search needs
 keep-requires : tie.Need-keep-requires
 keep-requires c κs = search needs
 
+fine-requires-2 : tie.Need-fine-requires-2
+fine-requires-2 c κs = search needs
+
 enum-told : tie.Need-enum-told
 enum-told c = search needs
 
+wrong-requires-2 : tie.Need-wrong-requires-2
+wrong-requires-2 c κs = search needs
+
 returns-3 : tie.Need-returns-3
 returns-3 c =
-    let a = (c .before .before .before .before .before .before .before .before .before) .args in
-    let n = (c .before .before .before .before .before .before .before .next-word) in
-    (word-inside (a .line .now) (a .at) (n .result) (n .ensures) ((c .before .before .before .before .before .before .before .before .before) .pre) .1, rw (word-some (a .line .now) (a .at) (n .result) (n .ensures) ((c .before .before .before .before .before .before .if1) .left), sym ((c .before .before .before .before .value-of) .ensures) ∙ (c .before .before .n) .given .1, (c .keep) .ensures))
+    let a = (c .before .before .before .before .before .before .before .before .before .before) .args in
+    let n = (c .before .before .before .before .before .before .before .before .next-word) in
+    let inside = word-inside (a .line .now) (a .at) (n .result) (n .ensures) ((c .before .before .before .before .before .before .before .before .before .before) .pre) .1 in
+    let here = ap (λ s. s .end) (n .ensures) in
+    rw ((c .fine2) .ensures) (inside, rw (word-some (a .line .now) (a .at) (n .result) (n .ensures) ((c .before .before .before .before .before .before .before .if1) .left), sym ((c .before .before .before .before .before .value-of) .ensures) ∙ (c .before .before .before .n) .given .1, (c .before .keep) .ensures, here))
 
 returns-4 : tie.Need-returns-4
 returns-4 c =
-    let a = (c .before .before .before .before .before .before .before) .args in
-    let n = (c .before .before .before .before .before .next-word) in
-    ((c .before .before .before .before .before .before .before) .pre, rw (word-some (a .line .now) (a .at) (n .result) (n .ensures) ((c .before .before .before .before .if1) .left), sym ((c .before .before .value-of) .ensures) ∙ (c .enum-told) .given .1))
+    let a = (c .before .before .before .before .before .before .before .before) .args in
+    let n = (c .before .before .before .before .before .before .next-word) in
+    rw ((c .wrong2) .ensures) ((c .before .before .before .before .before .before .before .before) .pre, rw (word-some (a .line .now) (a .at) (n .result) (n .ensures) ((c .before .before .before .before .before .if1) .left), sym ((c .before .before .before .value-of) .ensures) ∙ (c .before .enum-told) .given .1))
 
 pub read-value-spec : {M : Type 1} → statement M
 read-value-spec =
@@ -66,7 +80,9 @@ read-value-spec =
     (tie.spec
     next-word-requires
     is-end-requires
+    fine-requires
     returns
+    wrong-requires
     returns-2
     sub-value-of
     part-value-of-start
@@ -74,6 +90,8 @@ read-value-spec =
     value-of-requires
     enum-known-n
     keep-requires
+    fine-requires-2
     enum-told
+    wrong-requires-2
     returns-3
     returns-4)

@@ -1,19 +1,19 @@
--- `bench_lines::expected_text` meets its contract: each text is the definition's. Assumes nothing.
+-- `bench_lines::wanted_text` meets its contract: each text is the definition's. Assumes nothing.
 use borrow.Author.Needs.{needs}
-use Rattle.bench_lines.proofs.expected_text.Statement.{statement}
-use Rattle.bench_lines.proofs.expected_text.Tie as tie
+use Rattle.bench_lines.proofs.wanted_text.Statement.{statement}
+use Rattle.bench_lines.proofs.wanted_text.Tie as tie
 
 enum-told : tie.Need-enum-told
 enum-told c = search needs
 
-enum-known-expected : tie.Need-enum-known-expected
-enum-known-expected c = search needs
+enum-known-wanted : tie.Need-enum-known-wanted
+enum-known-wanted c = search needs
 
 word-text-requires : tie.Need-word-text-requires
 word-text-requires c κs = search needs
 
-enum-known-expected-2 : tie.Need-enum-known-expected-2
-enum-known-expected-2 c = search needs
+enum-known-wanted-2 : tie.Need-enum-known-wanted-2
+enum-known-wanted-2 c = search needs
 
 value-text-requires : tie.Need-value-text-requires
 value-text-requires c κs = search needs
@@ -33,14 +33,14 @@ returns-3 c = search needs
 returns-4 : tie.Need-returns-4
 returns-4 c = rw ((c .before .before .enum-told2) .given .1)
 
-pub expected-text-spec : {M : Type 1} → statement M
-expected-text-spec =
+pub wanted-text-spec : {M : Type 1} → statement M
+wanted-text-spec =
     tie.close
     (tie.spec
     enum-told
-    enum-known-expected
+    enum-known-wanted
     word-text-requires
-    enum-known-expected-2
+    enum-known-wanted-2
     value-text-requires
     enum-told-2
     returns
