@@ -20,7 +20,7 @@ use Rattle.bench_file.specs.declared.Counts.{Counts}
 use Rattle.bench_file.specs.declared.Reading.the-variants as Reading
 use Rattle.bench_file.specs.declared.Page.{Page}
 use Rattle.bench_file.specs.declared.Page.the-variants.{Models, Connectors, Couplings, Services, Actions, Flag}
-use Rattle.bench_file.specs.Filing.{Pages, pageOf, hasRoom, putRow, placed, fileIn, fileSaid, Ending, after, readFrom, noRows, readFile}
+use Rattle.bench_file.specs.Filing.{Pages, pageOf, hasRoom, putRow, placed, fileIn, fileSaid, Ending, after, readFrom, noRows, bodyOf, readFile}
 use Rattle.bench_file.specs.FilingLaws.{row-room}
 
 -- ---- one page, from n rows to m
@@ -138,19 +138,19 @@ pub record Left (n : Counts) (p : Pages) (e : Ending) : Type 0 where
   pub filled : Filled n counts p (e .pages)
   pub told : (m : Counts) → e .reading ≡ Reading.Read m → counts ≡ m
 
-after-left : (n : Counts) (p : Pages) (line : ℕ) (fault : Fault) (m : Counts) (q : Pages) (next : Counts → Pages → Ending)
-    → Filled n m p q → (Fit m q → Left m q (next m q)) → Left n p (after line fault m q next)
-after-left n p line Fine m q next f go =
+after-left : (n : Counts) (p : Pages) (line column : ℕ) (fault : Fault) (m : Counts) (q : Pages) (next : Counts → Pages → Ending)
+    → Filled n m p q → (Fit m q → Left m q (next m q)) → Left n p (after line column fault m q next)
+after-left n p line column Fine m q next f go =
     let rest = go (fit-of f) in
     record { counts = rest .counts; filled = filled-then f (rest .filled); told = rest .told }
-after-left n p line (Wrong e) m q next f go = record { counts = m; filled = f; told = λ k h. cc }
+after-left n p line column (Wrong e) m q next f go = record { counts = m; filled = f; told = λ k h. cc }
 
 from-left : (lines : List (List ℕ)) (k : ℕ) (n : Counts) (p : Pages) → Fit n p → Left n p (readFrom lines k n p)
 from-left [] k n p fit = record { counts = n; filled = filled-none n p fit; told = λ m h. cc }
 from-left (line ∷ rest) k n p fit =
     let r = readLine line in
     let filed = fileSaid (r .said) (r .cells) n p in
-    after-left n p (k + 1) (filed .fault) (filed .counts) (filed .pages) (readFrom rest (k + 1)) (said-in n p fit (r .cells) (cells-ten line) (r .said)) (from-left rest (k + 1) (filed .counts) (filed .pages))
+    after-left n p (k + 1) (r .column) (filed .fault) (filed .counts) (filed .pages) (readFrom rest (k + 1)) (said-in n p fit (r .cells) (cells-ten line) (r .said)) (from-left rest (k + 1) (filed .counts) (filed .pages))
 
 none-fit : (p : Pages) → Fit noRows p
 none-fit p = record { models = omega arith; connectors = omega arith; couplings = omega arith; services = omega arith; actions = omega arith }
@@ -158,4 +158,4 @@ none-fit p = record { models = omega arith; connectors = omega arith; couplings 
 -- of every file and every memory: rows from the start of each page on, each page as long as it was, all beyond the rows as it was
 pub file-left : (text : List ℕ) (p : Pages) → Left noRows p (readFile text p)
 unfolding readFile
-file-left text p = from-left (linesOf text) 0 noRows p (none-fit p)
+file-left text p = from-left (linesOf (bodyOf text)) 0 noRows p (none-fit p)

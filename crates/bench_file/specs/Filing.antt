@@ -1,20 +1,20 @@
 -- How the lines of a file become rows of lent words, and what the answer is. Definitions only. Assumes nothing.
-use Prim.Native.Nat.{ℕ, _+_, _*_, _/_}
-use mathlib.Core.Bool.{Bool, true, false}
+use Prim.Native.Nat.{ℕ, _+_, _*_, _-_, _/_}
+use mathlib.Core.Bool.{Bool, true, false, _&&_}
 use mathlib.Core.List.{List, [], _∷_}
-use lib.ListN.{length}
-use lib.Dec.{ltb}
+use lib.ListN.{length, getD, drop}
+use lib.Dec.{leb, ltb, eqb}
 use lib.Seq.{paste}
-use Rattle.rules.specs.Base.{if_then_else_}
+use Rattle.rules.specs.Base.{if_then_else_, hold}
 use Rattle.bench_words.specs.Splitting.{linesOf}
 use Rattle.bench_lines.specs.declared.Item.{Item}
 use Rattle.bench_lines.specs.declared.Item.the-variants.{Processor, Batcher, Stopwatch, Coupled, Connector, Input, Output, Internal, Service, InjectInput, StepN, StepUntil, StepUntilIdle, Rows}
-use Rattle.bench_lines.specs.declared.Expected.the-variants.{NoMore}
+use Rattle.bench_lines.specs.declared.Wanted.the-variants.{NoMore}
 use Rattle.bench_lines.specs.declared.Fault.{Fault}
 use Rattle.bench_lines.specs.declared.Fault.the-variants.{Fine, Wrong}
 use Rattle.bench_lines.specs.declared.Said.{Said}
 use Rattle.bench_lines.specs.declared.Said.the-variants as Said
-use Rattle.bench_lines.specs.Reading.{readLine}
+use Rattle.bench_lines.specs.Reading.{only, readLine}
 use Rattle.bench_file.specs.declared.Counts.{Counts}
 use Rattle.bench_file.specs.declared.Reading.{Reading}
 use Rattle.bench_file.specs.declared.Reading.the-variants as Reading
@@ -91,7 +91,7 @@ filedFine n = record { counts = n; fault = Fine }
 -- a row that has room is counted; one that has none was not expected
 abbrev pub placed : Bool → Page → Counts → Filed
 placed true page n = filedFine (oneMore page n)
-placed false page n = record { counts = n; fault = Wrong NoMore }
+placed false page n = record { counts = n; fault = Wrong (only NoMore) }
 
 -- the row goes after the others of its page
 abbrev pub fileIn : Page → List ℕ → Counts → Pages → Filing
@@ -121,24 +121,63 @@ pub record Ending : Type 0 where
 abbrev pub ending : Reading → Pages → Ending
 ending r pages = record { reading = r; pages = pages }
 
--- after a line, the first is 1: the next, or the answer that it is wrong
-abbrev pub after : ℕ → Fault → Counts → Pages → (Counts → Pages → Ending) → Ending
-after line Fine n p next = next n p
-after line (Wrong e) n p next = ending (Reading.Wrong line e) p
+-- after a line, the first is 1: the next, or the answer that it is wrong, and at which column
+abbrev pub after : ℕ → ℕ → Fault → Counts → Pages → (Counts → Pages → Ending) → Ending
+after line column Fine n p next = next n p
+after line column (Wrong e) n p next = ending (Reading.Wrong line column e) p
 
 -- the lines after the first k
 abbrev pub readFrom : List (List ℕ) → ℕ → Counts → Pages → Ending
 readFrom [] k n p = ending (Reading.Read n) p
 readFrom (line ∷ rest) k n p =
     let filed = fileSaid (readLine line .said) (readLine line .cells) n p in
-    after (k + 1) (filed .fault) (filed .counts) (filed .pages) (readFrom rest (k + 1))
+    after (k + 1) (readLine line .column) (filed .fault) (filed .counts) (filed .pages) (readFrom rest (k + 1))
 
 abbrev pub noRows : Counts
 noRows = record { models = 0; connectors = 0; couplings = 0; services = 0; actions = 0; rows = false }
 
+-- "A byte order mark at the file's start is passed over": EF BB BF. The first line's columns count from behind it
+abbrev pub markSpan : List ℕ → ℕ
+markSpan text = if hold (leb 3 (length text) ∷ eqb (getD text 0 0) 0xEF ∷ eqb (getD text 1 0) 0xBB ∷ eqb (getD text 2 0) 0xBF ∷ []) then 3 else 0
+
+abbrev pub bodyOf : List ℕ → List ℕ
+bodyOf text = drop (markSpan text) text
+
 -- each line's row in order, up to the first wrong line: what is written before it stays
 unfoldable pub readFile : List ℕ → Pages → Ending
-readFile text p = readFrom (linesOf text) 0 noRows p
+readFile text p = readFrom (linesOf (bodyOf text)) 0 noRows p
+
+-- ---- the line that a row was read from
+abbrev pub pageNumber : Page → ℕ
+pageNumber Models = 0
+pageNumber Connectors = 1
+pageNumber Couplings = 2
+pageNumber Services = 3
+pageNumber Actions = 4
+pageNumber Flag = 5
+
+abbrev pub samePage : Page → Page → Bool
+samePage a b = eqb (pageNumber a) (pageNumber b)
+
+abbrev pub isOn : Page → Said → Bool
+isOn page Said.Nothing = false
+isOn page (Said.Row item) = samePage page (pageOf item)
+isOn page (Said.Wrong e) = false
+
+-- how many rows of the page come before the one that is looked for, after a line that is on it or not
+abbrev pub leftAfter : Bool → ℕ → ℕ
+leftAfter true left = left - 1
+leftAfter false left = left
+
+-- among the lines after the first k, the one with the page's row that has so many before it from here on; 0 is no line
+abbrev pub lineIn : Page → List (List ℕ) → ℕ → ℕ → ℕ
+lineIn page [] k left = 0
+lineIn page (line ∷ rest) k left =
+    let on = isOn page (readLine line .said) in
+    if on && eqb left 0 then k + 1 else lineIn page rest (k + 1) (leftAfter on left)
+
+unfoldable pub lineOf : Page → ℕ → List ℕ → ℕ
+lineOf page row text = lineIn page (linesOf (bodyOf text)) 0 row
 
 -- where the line after one that ends at `end` starts, in so many bytes
 abbrev pub nextLine : ℕ → ℕ → ℕ

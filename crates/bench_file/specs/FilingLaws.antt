@@ -1,16 +1,16 @@
 -- The laws of filing: a row that is put, word by word, and the line that comes next. Assumes nothing.
 use Prim.Native.Nat.{ℕ, suc, _+_, _*_, _-_, _/_, _≤_, _<_}
 use mathlib.Core.Path.{_≡_, refl, sym, _∙_}
-use mathlib.Core.Bool.{Bool, true, false, not}
-use mathlib.Core.List.{List, _∷_}
+use mathlib.Core.Bool.{Bool, true, false, not, _&&_}
+use mathlib.Core.List.{List, [], _∷_}
 use native.Mathlib.Omega.{arith}
 use native.Mathlib.Nat.{div-mul-le-self, mul-le-mul-right, suc-mul}
 use native.Mathlib.Numerals.{add-one}
-use borrow.Author.Tests.{ltb-true, ltb-false}
-use lib.Dec.{ltb}
+use borrow.Author.Tests.{ltb-true, ltb-false, leb-true}
+use lib.Dec.{leb, ltb, eqb}
 use lib.ListN.{length, getD, set, take, drop, length-drop, drop-of-length-le}
 use lib.Seq.{drop-drop, paste, paste-suc}
-use Rattle.rules.specs.Base.{if_then_else_}
+use Rattle.rules.specs.Base.{if_then_else_, hold}
 use Rattle.bench_words.specs.Splitting.{isNewline, lineSpan, linesOf}
 use Rattle.bench_words.specs.SplittingLaws.{span-inside, lines-some}
 use Rattle.bench_lines.specs.declared.Expected.{Expected}
@@ -18,7 +18,8 @@ use Rattle.bench_lines.specs.declared.Fault.the-variants.{Fine, Wrong}
 use Rattle.bench_lines.specs.Reading.{readLine}
 use Rattle.bench_file.specs.declared.Counts.{Counts}
 use Rattle.bench_file.specs.declared.Reading.the-variants as Reading
-use Rattle.bench_file.specs.Filing.{Pages, Filing, nextLine, fileSaid, ending, readFrom}
+use Rattle.bench_file.specs.declared.Page.{Page}
+use Rattle.bench_file.specs.Filing.{Pages, Filing, nextLine, fileSaid, ending, readFrom, markSpan, isOn, leftAfter, lineIn}
 
 -- ---- a row that has room
 -- its words are there
@@ -70,5 +71,21 @@ module _ (line : List ℕ) (rest : List (List ℕ)) (k : ℕ) (n : Counts) (p : 
   pub file-goes : filed .fault ≡ Fine → readFrom (line ∷ rest) k n p ≡ readFrom rest (k + 1) (filed .counts) (filed .pages)
   file-goes h = rw (sym e, h)
 
-  pub file-stops : (x : Expected) → filed .fault ≡ Wrong x → readFrom (line ∷ rest) k n p ≡ ending (Reading.Wrong (k + 1) x) (filed .pages)
+  pub file-stops : (x : Expected) → filed .fault ≡ Wrong x → readFrom (line ∷ rest) k n p ≡ ending (Reading.Wrong (k + 1) (readLine line .column) x) (filed .pages)
   file-stops x h = rw (sym e, h)
+
+-- ---- the line of a row
+module _ (page : Page) (line : List ℕ) (rest : List (List ℕ)) (k left : ℕ) (on : Bool) (e : on ≡ isOn page (readLine line .said)) where
+  pub row-here : on && eqb left 0 ≡ true → lineIn page (line ∷ rest) k left ≡ k + 1
+  row-here h = rw (sym e, h)
+
+  pub row-later : on && eqb left 0 ≡ false → lineIn page (line ∷ rest) k left ≡ lineIn page rest (k + 1) (leftAfter on left)
+  row-later h = rw (sym e, h)
+
+mark-by : (n : ℕ) (t u : Bool) → leb 3 n ≡ t → (if (if t then u else false) then 3 else 0) ≤ n
+mark-by n true true h = leb-true 3 n h
+mark-by n true false h = omega arith
+mark-by n false u h = omega arith
+
+pub mark-within : (text : List ℕ) → markSpan text ≤ length text
+mark-within text = mark-by (length text) (leb 3 (length text)) (hold (eqb (getD text 0 0) 0xEF ∷ eqb (getD text 1 0) 0xBB ∷ eqb (getD text 2 0) 0xBF ∷ [])) refl

@@ -1,18 +1,23 @@
-// Reads a bench file into words: rows of the tables, service times and actions; or says which line is wrong and what was expected there.
+// Reads a bench file into words: rows of the tables, service times and actions; or says which line is wrong, at which column, and what was
+// expected there.
 // The format: docs/BENCH-FILE.md. The rows of the tables: docs/LAYOUT.md.
 pub use bench_lines::Expected;
 use bench_lines::Fault;
 use bench_lines::Item;
 use bench_lines::Line;
 use bench_lines::Said;
-pub use bench_lines::expected_text;
+pub use bench_lines::Value;
+pub use bench_lines::Wanted;
+pub use bench_lines::Word;
+pub use bench_lines::wanted_text;
+pub use bench_lines::word_text;
 pub use bench_words::text_length;
 ghost use mathlib.Core.Path.{_≡_};
-ghost use mathlib.Core.Bool.{true};
+ghost use mathlib.Core.Bool.{true, _&&_};
 ghost use Prim.Native.Nat.{_/_, _≤_, _<_};
 ghost use lib.ListN.{length};
-ghost use lib.Dec.{ltb};
-ghost use Rattle.bench_file.specs.Filing.{pageOf, putRow, countOf, filedFine, placed, pagesAt, filing, fileIn, fileSaid, nextLine, noRows, ending, readFile};
+ghost use lib.Dec.{ltb, eqb};
+ghost use Rattle.bench_file.specs.Filing.{pageOf, putRow, countOf, filedFine, placed, pagesAt, filing, fileIn, fileSaid, nextLine, noRows, ending, markSpan, readFile, pageNumber, samePage, isOn, leftAfter, lineOf};
 
 // How many rows of each kind there are, and whether `rows` stands in the file.
 pub struct Counts {
@@ -24,14 +29,18 @@ pub struct Counts {
     pub rows: bool,
 }
 
-// What a file says. Lines count from 1.
+// What a file says. Lines count from 1, and so do the bytes of a line.
 pub enum Reading {
     Read(Counts),
-    Wrong { line: u64, expected: Expected },
+    Wrong {
+        line: u64,
+        column: usize,
+        expected: Expected,
+    },
 }
 
 // Where an item's row goes; `rows` is a flag, and no row.
-enum Page {
+pub enum Page {
     Models,
     Connectors,
     Couplings,
@@ -101,7 +110,7 @@ fn counted(counts: Counts, page: Page, room: bool) -> Filed
     if !room {
         return Filed {
             counts,
-            fault: Fault::Wrong(Expected::NoMore),
+            fault: Fault::Wrong(bench_lines::only(Wanted::NoMore)),
         };
     }
     let mut more = counts;
@@ -230,15 +239,38 @@ fn no_counts() -> Counts
     }
 }
 
-fn wrong(line: u64, expected: Expected) -> Reading
-    ensures { λ r. ⌜ r ≡ Reading.Wrong line expected ⌝ }
+fn wrong(line: u64, column: usize, expected: Expected) -> Reading
+    ensures { λ r. ⌜ r ≡ Reading.Wrong line column expected ⌝ }
 {
-    Reading::Wrong { line, expected }
+    Reading::Wrong {
+        line,
+        column,
+        expected,
+    }
 }
 
-// Reads a bench file: how many rows of each kind, or the wrong line and what was expected there. Each slice is lent for the rows of one kind: models of 10 words, connectors of 4, couplings of 6, service times
-// of 1, actions of 7. Rows go from its start on, and what is beyond them stays as it was. Where a line is wrong, the rows of the
-// lines before it are written.
+// How many bytes the byte order mark takes that may stand at a file's start.
+fn mark_length(text: &[u8]) -> usize
+    ensures { λ r. ⌜ r ≡ markSpan (now (text .entry)) ⌝ }
+{
+    if text.len() < 3 {
+        return 0;
+    }
+    if text[0] != 0xEF {
+        return 0;
+    }
+    if text[1] != 0xBB {
+        return 0;
+    }
+    if text[2] != 0xBF {
+        return 0;
+    }
+    3
+}
+
+// Reads a bench file: how many rows of each kind, or the wrong line, its column and what was expected there. Each slice is lent for the
+// rows of one kind: models of 10 words, connectors of 4, couplings of 6, service times of 1, actions of 7. Rows go from its start on, and
+// what is beyond them stays as it was. Where a line is wrong, the rows of the lines before it are written.
 pub fn read(
     text: &[u8],
     models: &mut [u64],
@@ -251,10 +283,11 @@ pub fn read(
 {
     let mut counts = no_counts();
     let mut lines: u64 = 0;
-    let mut at = 0;
+    let mut at = mark_length(text);
     while at < text.len() {
         let end = bench_words::line_end(text, at);
         let line = bench_lines::read_line(&text[at..end]);
+        let column = line.column;
         let filed = put_line(
             models,
             connectors,
@@ -267,7 +300,7 @@ pub fn read(
         lines += 1;
         let fault = filed.fault;
         match fault {
-            Fault::Wrong(e) => return wrong(lines, e),
+            Fault::Wrong(e) => return wrong(lines, column, e),
             Fault::Fine => {
                 let more = filed.counts;
                 counts = more;
@@ -276,4 +309,79 @@ pub fn read(
         }
     }
     Reading::Read(counts)
+}
+
+fn page_number(page: Page) -> u64
+    ensures { λ r. ⌜ r ≡ pageNumber page ⌝ }
+{
+    match page {
+        Page::Models => 0,
+        Page::Connectors => 1,
+        Page::Couplings => 2,
+        Page::Services => 3,
+        Page::Actions => 4,
+        Page::Flag => 5,
+    }
+}
+
+fn is_same(page: Page, other: Page) -> bool
+    ensures { λ r. ⌜ r ≡ samePage page other ⌝ }
+{
+    page_number(page) == page_number(other)
+}
+
+// Whether a line's row goes to the page.
+fn is_on(page: Page, said: Said) -> bool
+    ensures { λ r. ⌜ r ≡ isOn page said ⌝ }
+{
+    match said {
+        Said::Nothing => false,
+        Said::Row(item) => is_same(page, page_of(item)),
+        Said::Wrong(_) => false,
+    }
+}
+
+// Whether a row is the one that is looked for, with so many before it.
+fn is_it(on: bool, left: usize) -> bool
+    ensures { λ r. ⌜ r ≡ on && eqb left 0 ⌝ }
+{
+    if !on {
+        return false;
+    }
+    left == 0
+}
+
+// How many rows are before it still.
+fn left_after(on: bool, left: usize) -> usize
+    ensures { λ r. ⌜ r ≡ leftAfter on left ⌝ }
+{
+    if !on {
+        return left;
+    }
+    if left == 0 {
+        return 0;
+    }
+    left - 1
+}
+
+// The number of the line that a row of a page was read from, rows counted from 0 and lines from 1; 0 where there is no such row.
+pub fn line_of(text: &[u8], page: Page, row: usize) -> u64
+    ensures { λ r. ⌜ r ≡ lineOf page row (now (text .entry)) ⌝ }
+{
+    let mut left = row;
+    let mut lines: u64 = 0;
+    let mut at = mark_length(text);
+    while at < text.len() {
+        let end = bench_words::line_end(text, at);
+        let line = bench_lines::read_line(&text[at..end]);
+        lines += 1;
+        let said = line.said;
+        let on = is_on(page, said);
+        if is_it(on, left) {
+            return lines;
+        }
+        left = left_after(on, left);
+        at = next_line(text, end);
+    }
+    0
 }

@@ -7,8 +7,11 @@ use borrow.Author.Needs.{needs}
 use Rattle.bench_file.proofs.counted.Statement.{statement}
 use Rattle.bench_file.proofs.counted.Tie as tie
 
+only-requires : tie.Need-only-requires
+only-requires c κs = search needs
+
 returns : tie.Need-returns
-returns c = rw (not-true ((c .before) .args .room) ((c .if1) .taken))
+returns c = rw (not-true ((c .before .before) .args .room) ((c .before .if1) .taken), (c .only) .ensures)
 
 enum-told : tie.Need-enum-told
 enum-told c = search needs
@@ -99,6 +102,7 @@ pub counted-spec : {M : Type 1} → statement M
 counted-spec =
     tie.close
     (tie.spec
+    only-requires
     returns
     enum-told
     add-more

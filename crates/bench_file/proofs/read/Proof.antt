@@ -7,7 +7,8 @@ use mathlib.Core.List.{[]}
 use lib.ListN.{length, take, drop, drop-of-length-le}
 use Rattle.bench_words.specs.Splitting.{linesFrom, linesOf}
 use Rattle.bench_file.specs.Filing.{pagesAt, filing, fileSaid, nextLine, ending, readFrom, readFile}
-use Rattle.bench_file.specs.FilingLaws.{line-within, next-within, next-further, lines-at, file-goes, file-stops}
+use Rattle.bench_file.specs.declared.Reading.the-variants as Reading
+use Rattle.bench_file.specs.FilingLaws.{line-within, next-within, next-further, lines-at, file-goes, file-stops, mark-within}
 use Rattle.bench_file.proofs.read.Statement.{statement}
 use Rattle.bench_file.proofs.read.Tie as tie
 
@@ -22,9 +23,14 @@ abbrev μ-loop : tie.MeasureT-loop
 no-counts-requires : tie.Need-no-counts-requires Inv-loop μ-loop
 no-counts-requires c κs = search needs
 
+mark-length-requires : tie.Need-mark-length-requires Inv-loop μ-loop
+mark-length-requires c κs = search needs
+
 loop-holds : tie.Need-loop-holds Inv-loop μ-loop
 unfolding readFile
-loop-holds c = (omega arith, omega arith, search needs, search needs, search needs, search needs, search needs, rw ((c .no-counts) .ensures))
+loop-holds c =
+    let text = (c .before .before .before .before .before .before .before .before) .args .text .now in
+    (omega (arith, (c .mark-length) .ensures, mark-within text), omega arith, search needs, search needs, search needs, search needs, search needs, rw ((c .before .no-counts) .ensures, (c .mark-length) .ensures))
 
 line-end-requires : tie.Need-line-end-requires Inv-loop μ-loop
 line-end-requires c κs = search needs
@@ -37,7 +43,7 @@ part-read-line-start c = search needs
 
 part-read-line-end : tie.Need-part-read-line-end Inv-loop μ-loop
 part-read-line-end c =
-    omega (arith, line-within ((c .before .before .before .before .before .before .before .before .before .before) .args .text .now) ((c .before .before .loop) .at) ((c .line-end) .result) ((c .line-end) .ensures) ((c .before .loop-test) .taken))
+    omega (arith, line-within ((c .before .before .before .before .before .before .before .before .before .before .before) .args .text .now) ((c .before .before .loop) .at) ((c .line-end) .result) ((c .line-end) .ensures) ((c .before .loop-test) .taken))
 
 read-line-requires : tie.Need-read-line-requires Inv-loop μ-loop
 read-line-requires c κs = search needs
@@ -48,8 +54,8 @@ put-line-requires c κs = search needs
 add-lines : tie.Need-add-lines Inv-loop μ-loop
 add-lines c =
     let l = (c .before .before .before .before .before .before .before .before .before .before .before .before .before .before .before .before .before .before .before .before .loop) in
-    let few : l .lines < length ((c .before .before .before .before .before .before .before .before .before .before .before .before .before .before .before .before .before .before .before .before .before .before .before .before .before .before .before .before) .args .text .now) = omega (arith, l .inv .1, (c .before .before .before .before .before .before .before .before .before .before .before .before .before .before .before .before .before .before .before .loop-test) .taken) in
-    omega (arith, few, (c .before .before .before .before .before .before .before .before .before .before .before .before .before .before .before .before .before .before .before .before .before .before .before .before .before .before .before .before) .good .0 .0)
+    let few : l .lines < length ((c .before .before .before .before .before .before .before .before .before .before .before .before .before .before .before .before .before .before .before .before .before .before .before .before .before .before .before .before .before) .args .text .now) = omega (arith, l .inv .1, (c .before .before .before .before .before .before .before .before .before .before .before .before .before .before .before .before .before .before .before .loop-test) .taken) in
+    omega (arith, few, (c .before .before .before .before .before .before .before .before .before .before .before .before .before .before .before .before .before .before .before .before .before .before .before .before .before .before .before .before .before) .good .0 .0)
 
 enum-known-fault : tie.Need-enum-known-fault Inv-loop μ-loop
 enum-known-fault c = search needs
@@ -79,7 +85,7 @@ same-length-5 c =
 
 returns : tie.Need-returns Inv-loop μ-loop
 returns c =
-    let text = (c .before .before .before .before .before .before .before .before .before .before .before .before .before .before .before .before .before .before .before .before .before .before .before .before .before .before .before .before .before .before .before .before) .args .text .now in
+    let text = (c .before .before .before .before .before .before .before .before .before .before .before .before .before .before .before .before .before .before .before .before .before .before .before .before .before .before .before .before .before .before .before .before .before) .args .text .now in
     let l = (c .before .before .before .before .before .before .before .before .before .before .before .before .before .before .before .before .before .before .before .before .before .before .before .before .loop) in
     let put = (c .before .before .before .before .before .before .before .before .before .before .before .before .before .before .put-line) in
     let pages = pagesAt (l .models) (l .connectors) (l .couplings) (l .services) (l .actions) in
@@ -88,7 +94,7 @@ returns c =
     let filed = filing (put .result) (pagesAt (put .last .0) (put .last .1 .0) (put .last .1 .1 .0) (put .last .1 .1 .1 .0) (put .last .1 .1 .1 .1 .0)) in
     let e = put .ensures ∙ ap (λ r. fileSaid (r .said) (r .cells) (l .counts) pages) ((c .before .before .before .before .before .before .before .before .before .before .before .before .before .before .before .before .before .before .before .before .read-line) .ensures) in
     let here = lines-at text (l .at) ((c .before .before .before .before .before .before .before .before .before .before .before .before .before .before .before .before .before .before .before .before .before .before .line-end) .result) ((c .before .before .before .before .before .before .before .before .before .before .before .before .before .before .before .before .before .before .before .before .before .before .line-end) .ensures) ((c .before .before .before .before .before .before .before .before .before .before .before .before .before .before .before .before .before .before .before .before .before .before .before .loop-test) .taken) in
-    ap (λ r. ending r (filed .pages)) ((c .wrong) .ensures) ∙ sym (ap (λ ls. readFrom ls (l .lines) (l .counts) pages) here ∙ file-stops line rest (l .lines) (l .counts) pages filed e ((c .before .before .fault) .given .0 .0) ((c .before .before .fault) .given .1)) ∙ l .inv .7
+    ap (λ r. ending r (filed .pages)) ((c .wrong) .ensures) ∙ ap (λ r. ending (Reading.Wrong (l .lines + 1) (r .column) ((c .before .before .fault) .given .0 .0)) (filed .pages)) ((c .before .before .before .before .before .before .before .before .before .before .before .before .before .before .before .before .before .before .before .before .read-line) .ensures) ∙ sym (ap (λ ls. readFrom ls (l .lines) (l .counts) pages) here ∙ file-stops line rest (l .lines) (l .counts) pages filed e ((c .before .before .fault) .given .0 .0) ((c .before .before .fault) .given .1)) ∙ l .inv .7
 
 enum-told : tie.Need-enum-told Inv-loop μ-loop
 enum-told c = search needs
@@ -98,12 +104,12 @@ next-line-requires c κs = search needs
 
 loop-less : tie.Need-loop-less Inv-loop μ-loop
 loop-less c =
-    let text = (c .before .before .before .before .before .before .before .before .before .before .before .before .before .before .before .before .before .before .before .before .before .before .before .before .before .before .before .before .before .before .before .before) .args .text .now in
+    let text = (c .before .before .before .before .before .before .before .before .before .before .before .before .before .before .before .before .before .before .before .before .before .before .before .before .before .before .before .before .before .before .before .before .before) .args .text .now in
     omega (arith, (c .next-line) .ensures, next-further text ((c .before .before .before .before .before .before .before .before .before .before .before .before .before .before .before .before .before .before .before .before .before .before .before .before .loop) .at) ((c .before .before .before .before .before .before .before .before .before .before .before .before .before .before .before .before .before .before .before .before .before .before .line-end) .result) ((c .before .before .before .before .before .before .before .before .before .before .before .before .before .before .before .before .before .before .before .before .before .before .line-end) .ensures) ((c .before .before .before .before .before .before .before .before .before .before .before .before .before .before .before .before .before .before .before .before .before .before .before .loop-test) .taken), next-within text ((c .before .before .before .before .before .before .before .before .before .before .before .before .before .before .before .before .before .before .before .before .before .before .before .before .loop) .at) ((c .before .before .before .before .before .before .before .before .before .before .before .before .before .before .before .before .before .before .before .before .before .before .line-end) .result) ((c .before .before .before .before .before .before .before .before .before .before .before .before .before .before .before .before .before .before .before .before .before .before .line-end) .ensures) ((c .before .before .before .before .before .before .before .before .before .before .before .before .before .before .before .before .before .before .before .before .before .before .before .loop-test) .taken))
 
 loop-again : tie.Need-loop-again Inv-loop μ-loop
 loop-again c =
-    let text = (c .before .before .before .before .before .before .before .before .before .before .before .before .before .before .before .before .before .before .before .before .before .before .before .before .before .before .before .before .before .before .before .before) .args .text .now in
+    let text = (c .before .before .before .before .before .before .before .before .before .before .before .before .before .before .before .before .before .before .before .before .before .before .before .before .before .before .before .before .before .before .before .before .before) .args .text .now in
     let l = (c .before .before .before .before .before .before .before .before .before .before .before .before .before .before .before .before .before .before .before .before .before .before .before .before .loop) in
     let put = (c .before .before .before .before .before .before .before .before .before .before .before .before .before .before .put-line) in
     let pages = pagesAt (l .models) (l .connectors) (l .couplings) (l .services) (l .actions) in
@@ -143,7 +149,7 @@ same-length-10 c = search needs
 returns-2 : tie.Need-returns-2 Inv-loop μ-loop
 unfolding linesFrom
 returns-2 c =
-    let text = (c .before .before .before .before .before .before .before .before .before) .args .text .now in
+    let text = (c .before .before .before .before .before .before .before .before .before .before) .args .text .now in
     let l = (c .before .loop) in
     let done : drop (l .at) text ≡ [] = drop-of-length-le text {i = l .at} ((c .loop-test) .left) in
     rw done at (l .inv .7)
@@ -155,6 +161,7 @@ read-spec =
     Inv-loop
     μ-loop
     no-counts-requires
+    mark-length-requires
     loop-holds
     line-end-requires
     sub-read-line
