@@ -6,4 +6,5 @@ pub mod SplittingLaws
 pub mod NumbersLaws
 pub mod DecimalLaws
 pub mod TextLaws
+pub mod Decimals
 pub mod Cases

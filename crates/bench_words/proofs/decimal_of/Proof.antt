@@ -37,7 +37,7 @@ returns-2 c =
 returns-3 : tie.Need-returns-3
 returns-3 c =
     let a = (c .before .before .before .before) .args in
-    sym (decimal-long (a .word .now) (a .point) _ ((c .before .before .before .before) .pre .0) ((c .before .before .before .before) .pre .1) refl ((c .if3) .taken))
+    sym (decimal-long (a .word .now) (a .point) _ ((c .before .before .before .before) .pre .0) ((c .before .before .before .before) .pre .1) refl (omega arith))
 
 without-point-requires : tie.Need-without-point-requires
 without-point-requires c κs = search needs
