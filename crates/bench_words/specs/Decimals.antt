@@ -184,11 +184,15 @@ decimal-reads before behind s =
     ∙ ap (λ (n : ℕ). Is (rounded n k)) (made-joined 0 before behind ∙ made-split (made 0 before) behind)
 
 -- ---- and nothing else with a point is read
-guarded : (t u v : Bool) (x : Number) (b : ℕ) → (if t && u && v then x else Not) ≡ Is b → (t ≡ true) × (u ≡ true) × (v ≡ true) × (x ≡ Is b)
-guarded true true true x b e = (refl, refl, refl, e)
-guarded true true false x b e = let z : _≡_ {A = ℕ} 0 1 = cc in absurd (omega arith)
-guarded true false v x b e = let z : _≡_ {A = ℕ} 0 1 = cc in absurd (omega arith)
-guarded false u v x b e = let z : _≡_ {A = ℕ} 0 1 = cc in absurd (omega arith)
+taken : (t : Bool) (x : Number) (b : ℕ) → (if t then x else Not) ≡ Is b → (t ≡ true) × (x ≡ Is b)
+taken true x b e = (refl, e)
+taken false x b e = let z : _≡_ {A = ℕ} 0 1 = cc in absurd (omega arith)
+
+all-true : (t u v : Bool) → t && u && v ≡ true → (t ≡ true) × (u ≡ true) × (v ≡ true)
+all-true true true true e = (refl, refl, refl)
+all-true true true false e = absurd (false≢true e)
+all-true true false v e = absurd (false≢true e)
+all-true false u v e = absurd (false≢true e)
 
 over-is : (k : ℕ) (x : Number) (b : ℕ) → overTens k x ≡ Is b → (n : ℕ) × (x ≡ Is n)
 over-is k (Is n) b e = (n, refl)
@@ -207,10 +211,12 @@ decimal-parted word b e =
     let p = textSpan word in
     let before = take p word in
     let behind = drop (suc p) word in
-    let w = guarded (ltb 0 (length before)) (ltb 0 (length behind)) (leb (length before + length behind) 15) (overTens (length behind) (numberOf nines (before ++ behind))) b e in
+    let x = overTens (length behind) (numberOf nines (before ++ behind)) in
+    let t = taken (ltb 0 (length before) && ltb 0 (length behind) && leb (length before + length behind) 15) x b e in
+    let w = all-true (ltb 0 (length before)) (ltb 0 (length behind)) (leb (length before + length behind) 15) (t .0) in
     let some : 0 < length behind = ltb-true 0 (length behind) (w .1) in
     let inside : p < length word = omega (arith, length-drop (suc p) word) in
-    let n = over-is (length behind) (numberOf nines (before ++ behind)) b (w .3) in
+    let n = over-is (length behind) (numberOf nines (before ++ behind)) b (t .1) in
     let ds = digits-parted before behind (numeral-digits nines 0 (before ++ behind) (n .0) (sym (number-some nines (before ++ behind) (λ none. omega (arith, length-append before behind))) ∙ n .1)) in
     record {
       before = before;
@@ -224,12 +230,6 @@ decimal-parted word b e =
         few = leb-true (length before + length behind) 15 (w .2);
       };
     }
-
-all-true : (t u v : Bool) → t && u && v ≡ true → (t ≡ true) × (u ≡ true) × (v ≡ true)
-all-true true true true e = (refl, refl, refl)
-all-true true true false e = absurd (false≢true e)
-all-true true false v e = absurd (false≢true e)
-all-true false u v e = absurd (false≢true e)
 
 -- the point of a word that is `0x` and 16 bytes stands among the 16
 bits-point : (word : List ℕ) → hasBits word ≡ true → textSpan word < length word → textSpan (drop 2 word) < length (drop 2 word)
