@@ -1,7 +1,10 @@
 -- What the contracts of `bench_words` cite, and the laws of it.
 pub mod Splitting
-pub mod Numbers
 pub mod Texts
+pub mod Numbers
 pub mod SplittingLaws
 pub mod NumbersLaws
+pub mod DecimalLaws
 pub mod TextLaws
+pub mod Decimals
+pub mod Cases

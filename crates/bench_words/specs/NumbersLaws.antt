@@ -2,7 +2,7 @@
 use Prim.Native.Nat.{ℕ, _+_, _*_, _-_, _/_, _≤_, _<_}
 use mathlib.Core.Path.{_≡_, refl}
 use mathlib.Core.Bool.{Bool, true, false, _&&_}
-use mathlib.Core.List.{List, [], _∷_}
+use mathlib.Core.List.{List, [], _∷_, _++_}
 use native.Mathlib.Nat.{div-lt-iff-lt-mul, le-div-iff-mul-le}
 use native.Mathlib.Numerals.{add-one}
 use native.Mathlib.Omega.{arith}
@@ -15,9 +15,9 @@ use lib.Ieee.{binary64, inFloat}
 use Rattle.rules.specs.Base.{if_then_else_}
 use Rattle.bench_words.specs.declared.Number.{Number}
 use Rattle.bench_words.specs.declared.Number.the-variants.{Is, Not}
-use Rattle.bench_words.specs.Numbers.{digitOf, numeral, numberOf, hasBits, ticks, timeOf}
+use Rattle.bench_words.specs.Numbers.{digitOf, numeral, numberOf, hasBits, hasPoint, ticks, decimalOf, timeOf}
 
-and-false : (b : Bool) → b && false ≡ false
+pub and-false : (b : Bool) → b && false ≡ false
 and-false true = refl
 and-false false = refl
 
@@ -74,6 +74,29 @@ within-is (is h) = h
 pub number-most : (most : ℕ) (word : List ℕ) (n : ℕ) → numberOf most word ≡ Is n → n ≤ most
 number-most most word n e = within-is (rw e at (number-within most word))
 
+pub numeral-most : (base most value : ℕ) (bs : List ℕ) (n : ℕ) → value ≤ most → numeral base most value bs ≡ Is n → n ≤ most
+numeral-most base most value bs n h e = within-is (rw e at (numeral-within base most value bs h))
+
+-- ---- digits behind digits
+joined-by : (t : Bool) (x y z : Number) (w : ℕ) → (x ≡ Is w → y ≡ z) → (if t then x else Not) ≡ Is w → (if t then y else Not) ≡ z
+joined-by true x y z w go e = go e
+joined-by false x y z w go e = let no : _≡_ {A = ℕ} 0 1 = cc in absurd (omega arith)
+
+broken-by : (t : Bool) (x y : Number) → (x ≡ Not → y ≡ Not) → (if t then x else Not) ≡ Not → (if t then y else Not) ≡ Not
+broken-by true x y go e = go e
+broken-by false x y go e = refl
+
+module _ (base most : ℕ) (ys : List ℕ) where
+  pub numeral-joined : (value : ℕ) (xs : List ℕ) (w : ℕ) → numeral base most value xs ≡ Is w → numeral base most value (xs ++ ys) ≡ numeral base most w ys
+  unfolding numeral
+  numeral-joined value [] w e = let same : value ≡ w = cc in rw same
+  numeral-joined value (b ∷ bs) w e = joined-by (ltb (digitOf b) base && leb (value * base + digitOf b) most) _ _ _ w (numeral-joined (value * base + digitOf b) bs w) e
+
+  pub numeral-broken : (value : ℕ) (xs : List ℕ) → numeral base most value xs ≡ Not → numeral base most value (xs ++ ys) ≡ Not
+  unfolding numeral
+  numeral-broken value [] e = let no : _≡_ {A = ℕ} 0 1 = cc in absurd (omega arith)
+  numeral-broken value (b ∷ bs) e = broken-by (ltb (digitOf b) base && leb (value * base + digitOf b) most) _ _ (numeral-broken (value * base + digitOf b) bs) e
+
 -- ---- a word by its length
 pub number-empty : (most : ℕ) (word : List ℕ) → length word ≡ 0 → numberOf most word ≡ Not
 unfolding numberOf
@@ -91,9 +114,14 @@ module _ (word : List ℕ) where
   unfolding timeOf
   time-bits h = rw h
 
-  pub time-whole : hasBits word ≡ false → timeOf word ≡ ticks (numberOf 0x20_0000_0000_0000 word)
-  unfolding timeOf
-  time-whole h = rw h
+  module _ (h : hasBits word ≡ false) where
+    pub time-decimal : hasPoint word ≡ true → timeOf word ≡ decimalOf word
+    unfolding timeOf
+    time-decimal p = simp (h, p)
+
+    pub time-whole : hasPoint word ≡ false → timeOf word ≡ ticks (numberOf 0x20_0000_0000_0000 word)
+    unfolding timeOf
+    time-whole p = simp (h, p)
 
 pub whole-fits : (n : ℕ) → n ≤ 0x20_0000_0000_0000 → T (inFloat binary64 (pos n))
 unfolding inFloat

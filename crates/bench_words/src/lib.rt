@@ -1,10 +1,14 @@
 // The bytes of a bench file: its lines, a line's words, and the numbers and times that words stand for. The format: docs/BENCH-FILE.md.
 ghost use mathlib.Core.Path.{_≡_};
-ghost use Prim.Native.Nat.{_+_, _<_};
-ghost use lib.ListN.{length, drop};
+ghost use Prim.Native.Nat.{suc, _+_, _^_, _≤_, _<_};
+ghost use mathlib.Core.List.{_++_};
+ghost use lib.ListN.{length, take, drop};
 ghost use Rattle.bench_words.specs.Splitting.{isBlank, isPlain, spanOf, lineSpan, wordSpan, wordAt};
-ghost use Rattle.bench_words.specs.Numbers.{digitOf, numeral, numberOf, hasBits, timeOf};
+ghost use Rattle.bench_words.specs.Numbers.{digitOf, numeral, numberOf, hasBits, nines, decimalOf, timeOf};
 ghost use Rattle.bench_words.specs.Texts.{textSpan, textIn, same};
+
+// The largest number of 15 digits.
+const NINES: u64 = 999_999_999_999_999;
 
 // Where a word stands in its line: from `start` to before `end`. Where there is none, the two are equal.
 pub struct Span {
@@ -132,12 +136,12 @@ pub fn digit(b: u8) -> u64
     16
 }
 
-// The number that the digits from `from` on make in a base, where it is at most `most`.
-fn digits(word: &[u8], from: usize, base: u64, most: u64) -> Number
-    requires { ⌜ 0 < base ⌝ }
-    ensures { λ r. ⌜ r ≡ numeral base most 0 (drop from (now (word .entry))) ⌝ }
+// The number that the digits from `from` on make in a base, behind digits that make `before`, where it is at most `most`.
+fn digits(word: &[u8], from: usize, base: u64, most: u64, before: u64) -> Number
+    requires { ⌜ (0 < base) × (before ≤ most) ⌝ }
+    ensures { λ r. ⌜ r ≡ numeral base most before (drop from (now (word .entry))) ⌝ }
 {
-    let mut value = 0;
+    let mut value = before;
     let mut at = from;
     while at < word.len() {
         let d = digit(word[at]);
@@ -163,7 +167,7 @@ pub fn number_of(word: &[u8], most: u64) -> Number
     if word.len() == 0 {
         return Number::Not;
     }
-    digits(word, 0, 10, most)
+    digits(word, 0, 10, most, 0)
 }
 
 // Whether the word is `0x` and 16 bytes.
@@ -179,12 +183,76 @@ fn has_bits(word: &[u8]) -> bool
     word[1] == b'x'
 }
 
-// The bits of a time: those of a whole number of at most 2^53, or those that `0x` and 16 digits say; or Not.
+// Where the word's first point stands; past its last byte where it has none.
+fn point_at(word: &[u8]) -> usize
+    ensures { λ r. ⌜ r ≡ textSpan (now (word .entry)) ⌝ }
+{
+    let mut at = 0;
+    while at < word.len() {
+        if word[at] == b'.' {
+            return at;
+        }
+        at += 1;
+    }
+    at
+}
+
+// The number that all the digits make, with the point left out: at most 15 digits.
+fn without_point(word: &[u8], point: usize) -> Number
+    requires { do ⌜ point < (← ⟦word.len()⟧) ⌝ }
+    ensures { λ r. ⌜ r ≡ numeral 10 nines 0 (take point (now (word .entry)) ++ drop (suc point) (now (word .entry))) ⌝ }
+{
+    match digits(&word[0..point], 0, 10, NINES, 0) {
+        Number::Is(before) => digits(word, point + 1, 10, NINES, before),
+        Number::Not => Number::Not,
+    }
+}
+
+// A power of ten below 2^53.
+fn ten_to(k: usize) -> u64
+    requires { ⌜ k ≤ 15 ⌝ }
+    ensures { λ r. ⌜ r ≡ 10 ^ k ⌝ }
+{
+    let mut power = 1;
+    let mut at = 0;
+    while at < k {
+        power = power * 10;
+        at += 1;
+    }
+    power
+}
+
+// The bits of a decimal number with its first point at `point`; or Not. The two whole numbers are exact as f64, so that the division is all that rounds.
+fn decimal_of(word: &[u8], point: usize) -> Number
+    requires { do ⌜ (point ≡ textSpan (now word)) × (point < (← ⟦word.len()⟧)) ⌝ }
+    ensures { λ r. ⌜ r ≡ decimalOf (now (word .entry)) ⌝ }
+{
+    let behind = word.len() - point - 1;
+    if point == 0 {
+        return Number::Not;
+    }
+    if behind == 0 {
+        return Number::Not;
+    }
+    if 16 < word.len() {
+        return Number::Not;
+    }
+    match without_point(word, point) {
+        Number::Is(n) => Number::Is(times::bits_of(n as f64 / ten_to(behind) as f64)),
+        Number::Not => Number::Not,
+    }
+}
+
+// The bits of a time: those of a whole number of at most 2^53 or of a decimal number, or those that `0x` and 16 digits say; or Not.
 pub fn time_of(word: &[u8]) -> Number
     ensures { λ r. ⌜ r ≡ timeOf (now (word .entry)) ⌝ }
 {
     if has_bits(word) {
-        return digits(word, 2, 16, 0xFFFF_FFFF_FFFF_FFFF);
+        return digits(word, 2, 16, 0xFFFF_FFFF_FFFF_FFFF, 0);
+    }
+    let point = point_at(word);
+    if point < word.len() {
+        return decimal_of(word, point);
     }
     match number_of(word, 0x20_0000_0000_0000) {
         Number::Is(n) => Number::Is(times::bits_of(n as f64)),

@@ -10,10 +10,10 @@ use Rattle.bench_words.proofs.digits.Statement.{statement}
 use Rattle.bench_words.proofs.digits.Tie as tie
 
 abbrev Inv-loop : tie.InvT-loop
-Inv-loop word from base most value₀ at₀ value at = (value ≤ most) × (numeral base most value (drop at word) ≡ numeral base most 0 (drop from word))
+Inv-loop word from base most before value₀ at₀ value at = (value ≤ most) × (numeral base most value (drop at word) ≡ numeral base most before (drop from word))
 
 abbrev μ-loop : tie.MeasureT-loop
-μ-loop word from base most value₀ at₀ value at = length word - at
+μ-loop word from base most before value₀ at₀ value at = length word - at
 
 loop-holds : tie.Need-loop-holds Inv-loop μ-loop
 loop-holds c = (omega arith, refl)
@@ -44,20 +44,20 @@ returns-3 : tie.Need-returns-3 Inv-loop μ-loop
 returns-3 c =
     let a = (c .before .before .before .before .before .before .before .before) .args in
     let l = (c .before .before .before .before .before .before .loop) in
-    let over = goes-over (a .base) (a .most) (l .value) ((c .before .before .before .digit) .result) ((c .before .before .before .before .before .before .before .before) .pre) ((c .if3) .taken) in
+    let over = goes-over (a .base) (a .most) (l .value) ((c .before .before .before .digit) .result) ((c .before .before .before .before .before .before .before .before) .pre .0) ((c .if3) .taken) in
     sym (numeral-over (a .base) (a .most) (l .value) (a .word .now) (l .at) ((c .before .before .before .before .before .loop-test) .taken) (rw ((c .before .before .before .digit) .ensures) at over)) ∙ l .inv .1
 
 mul-value : tie.Need-mul-value Inv-loop μ-loop
 mul-value c =
     let a = (c .before .before .before .before .before .before .before .before) .args in
     let l = (c .before .before .before .before .before .before .loop) in
-    omega (arith, fits-more (a .base) (a .most) (l .value) ((c .before .before .before .digit) .result) ((c .before .before .before .before .before .before .before .before) .pre) ((c .before .if2) .left) ((c .if3) .left))
+    omega (arith, fits-more (a .base) (a .most) (l .value) ((c .before .before .before .digit) .result) ((c .before .before .before .before .before .before .before .before) .pre .0) ((c .before .if2) .left) ((c .if3) .left))
 
 add-value : tie.Need-add-value Inv-loop μ-loop
 add-value c =
     let a = (c .before .before .before .before .before .before .before .before) .args in
     let l = (c .before .before .before .before .before .before .loop) in
-    omega (arith, fits-more (a .base) (a .most) (l .value) ((c .before .before .before .digit) .result) ((c .before .before .before .before .before .before .before .before) .pre) ((c .before .if2) .left) ((c .if3) .left))
+    omega (arith, fits-more (a .base) (a .most) (l .value) ((c .before .before .before .digit) .result) ((c .before .before .before .before .before .before .before .before) .pre .0) ((c .before .if2) .left) ((c .if3) .left))
 
 add-at : tie.Need-add-at Inv-loop μ-loop
 add-at c = search needs
@@ -69,7 +69,7 @@ loop-again : tie.Need-loop-again Inv-loop μ-loop
 loop-again c =
     let a = (c .before .before .before .before .before .before .before .before) .args in
     let l = (c .before .before .before .before .before .before .loop) in
-    let fits = fits-more (a .base) (a .most) (l .value) ((c .before .before .before .digit) .result) ((c .before .before .before .before .before .before .before .before) .pre) ((c .before .if2) .left) ((c .if3) .left) in
+    let fits = fits-more (a .base) (a .most) (l .value) ((c .before .before .before .digit) .result) ((c .before .before .before .before .before .before .before .before) .pre .0) ((c .before .if2) .left) ((c .if3) .left) in
     (fits, rw ((c .before .before .before .digit) .ensures) (sym (numeral-more (a .base) (a .most) (l .value) (a .word .now) (l .at) ((c .before .before .before .before .before .loop-test) .taken) (rw ((c .before .before .before .digit) .ensures) at ((c .before .before .if1) .left)) (rw ((c .before .before .before .digit) .ensures) at fits)) ∙ l .inv .1))
 
 returns-4 : tie.Need-returns-4 Inv-loop μ-loop
