@@ -28,7 +28,7 @@ infinite = 0x7FF0_0000_0000_0000
 abbrev signBit : ℕ
 signBit = 0x8000_0000_0000_0000
 
-abbrev leading : ℕ
+abbrev pub leading : ℕ
 leading = 0x10_0000_0000_0000
 
 below-or : (a b : ℕ) → (a < b) ⊎ (b ≤ a)
@@ -108,11 +108,11 @@ same-leb a b c d h = same-test (leb a b) (leb c d) (λ t. le→leb c d (h .0 (le
 odd-bounded : (q k : ℕ) → bounded (odd 53 false q k 1074) ≡ leb (q * 2 ^ k) (2 ^ 60 * 2 ^ 1074)
 odd-bounded q k = bounded-value (pow-pos 1074) (value (odd 53 false q k 1074) (q * 2 ^ k) (2 ^ 1074) (odd-sign 53 false q k 1074))
 
-at-zero : (t : ℕ) → ofFields binary64 false 0 t ≡ odd 53 false t 0 1074
+pub at-zero : (t : ℕ) → ofFields binary64 false 0 t ≡ odd 53 false t 0 1074
 unfolding ofFields
 at-zero t = refl
 
-at-middle : (x t : ℕ) → T (not (eqb (suc x) 2047)) → ofFields binary64 false (suc x) t ≡ odd 53 false (leading + t) x 1074
+pub at-middle : (x t : ℕ) → T (not (eqb (suc x) 2047)) → ofFields binary64 false (suc x) t ≡ odd 53 false (leading + t) x 1074
 unfolding ofFields
 at-middle x t n = cond-no (eqb (suc x) 2047) (cond (eqb t 0) (inf false) nan) (odd 53 false (leading + t) x 1074) n
 
@@ -173,7 +173,7 @@ bits-set b h =
     let t = b % leading in
     ap clear (opened b ∙ ap (λ (s : Bool). ofFields binary64 s x t) (le-leb signBit b h)) ∙ fields-set x t
 
-bits-clear : (b : ℕ) → b < signBit → ofBits binary64 b ≡ ofFields binary64 false (b / leading) (b % leading)
+pub bits-clear : (b : ℕ) → b < signBit → ofBits binary64 b ≡ ofFields binary64 false (b / leading) (b % leading)
 bits-clear b h =
     opened b
     ∙ ap₂ (λ (s : Bool) (z : ℕ). ofFields binary64 s (z / leading) (b % leading)) (lt-leb signBit b h) (mod-eq-of-lt h)
