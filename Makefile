@@ -47,11 +47,11 @@ $(program): $(crates) | $(archive)
 	$(RT) check listing
 	@touch -c $@
 
-# All of the archive, which is position independent (-z text refuses it otherwise), and of its names the calls alone.
-$(shared): $(archive) packaging/exports.map VERSION
+# The archive is position independent (-z text would refuse it otherwise), and shows no name but those of the calls.
+$(shared): $(archive) Makefile
 	@mkdir -p $(@D)
-	$(CC) -shared -Wl,-soname,$(soname) -Wl,--version-script=packaging/exports.map -Wl,-z,text,-z,defs,-z,relro,-z,now \
-	    $(LDFLAGS) -Wl,--whole-archive $(archive) -Wl,--no-whole-archive -o $@
+	$(CC) -shared -Wl,-soname,$(soname) -Wl,-z,text,-z,defs,-z,relro,-z,now $(LDFLAGS) \
+	    -Wl,--whole-archive $(archive) -Wl,--no-whole-archive -o $@
 
 # Through the environment any DESTDIR is one word to the shell.
 install uninstall: export to = $(DESTDIR)$(prefix)
@@ -65,13 +65,13 @@ prefix-is-plain:
 	esac
 
 install: prefix-is-plain all
-	@for folder in $(folders); do $(INSTALL) -d "$$to/$$folder" || exit 1; done
+	@umask 022; for folder in $(folders); do mkdir -p "$$to/$$folder" || exit 1; done
 	$(INSTALL) -m 644 include/jambthrush.h "$$to/include/jambthrush.h"
 	$(INSTALL) -m 644 $(archive) "$$to/lib/libjambthrush.a"
 	$(INSTALL) -m 644 $(shared) "$$to/lib/$(so)"
 	ln -sf $(so) "$$to/lib/$(soname)"
 	ln -sf $(soname) "$$to/lib/libjambthrush.so"
-	sed -e 's|@PREFIX@|$(prefix)|' -e 's|@VERSION@|$(version)|' packaging/jambthrush.pc.in > "$$to/lib/pkgconfig/jambthrush.pc"
+	sed -e 's|@PREFIX@|$(prefix)|' -e 's|@VERSION@|$(version)|' jambthrush.pc.in > "$$to/lib/pkgconfig/jambthrush.pc"
 	chmod 644 "$$to/lib/pkgconfig/jambthrush.pc"
 	$(INSTALL) -m 755 jambthrush "$$to/bin/jambthrush"
 	$(INSTALL) -m 755 $(program) "$$to/libexec/jambthrush/listing"
