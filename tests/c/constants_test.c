@@ -261,5 +261,5 @@ int main(void) {
     test_rows();
     test_messages();
     test_parked();
-    return tell("constants_test");
+    return tell("constants");
 }
