@@ -56,12 +56,13 @@ $(shared): $(archive) Makefile
 # Through the environment any DESTDIR is one word to the shell.
 install uninstall: export to = $(DESTDIR)$(prefix)
 prefix-is-plain: export wanted = $(PREFIX)
+prefix-is-plain: export absolute = $(prefix)
 
 # pkg-config and those who use what it prints part words at blanks, and read other characters as their own.
 prefix-is-plain:
-	@LC_ALL=C; case $$wanted in \
+	@LC_ALL=C; case $$wanted$$absolute in \
 	'' | *[!A-Za-z0-9/._+@-]*) \
-	    echo "make: PREFIX is '$$wanted': it must be of letters, digits and / . _ + - @ alone" >&2; exit 1 ;; \
+	    echo "make: PREFIX is '$$wanted': as a whole path it must be of letters, digits and / . _ + - @ alone" >&2; exit 1 ;; \
 	esac
 
 install: prefix-is-plain all
@@ -85,6 +86,6 @@ uninstall: prefix-is-plain
 	    if [ -d "$$to/$$folder" ]; then rmdir --ignore-fail-on-non-empty "$$to/$$folder" || exit 1; fi; done
 
 help:
-	@echo 'make                                  prove and build the libraries and the command'
-	@echo 'make install [PREFIX=..] [DESTDIR=..] and put them under PREFIX, which is /usr/local, with DESTDIR before it'
-	@echo 'make uninstall [PREFIX=..] [DESTDIR=..]  take away what make install has put there'
+	@echo 'make             prove and build the libraries and the command'
+	@echo 'make install     .. and put them under PREFIX (/usr/local), with DESTDIR before it'
+	@echo 'make uninstall   take away what make install has put there'

@@ -5,7 +5,7 @@
 #include "words.h"
 
 enum { STATE_WORDS = 17286, ROWS = 64 }; /* of the largest table; for any run here */
-enum { PROCESSOR = 1, BATCHER = 2, STOPWATCH = 3, COUPLED = 4, SECOND = 5, OUTSIDE = 9 }; /* ids */
+enum { PROCESSOR = 101, BATCHER, STOPWATCH, COUPLED, SECOND, OUTSIDE }; /* ids */
 enum { JOB = 11, DONE, START, STOP, ASK, ANSWER, ENTRY, EXIT, NEXT, NEXT_DONE, ELSEWHERE }; /* ports */
 
 static struct {
