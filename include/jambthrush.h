@@ -93,7 +93,8 @@ enum { JT_OMITTED_CAPACITY = 32 };
 
 /* A table is three slices of words: models, connectors, couplings. In each, row stands after row, and each row has so many
  * words: word JT_MODEL_KIND of the model row k is models[k * JT_MODEL_WORDS + JT_MODEL_KIND]. Each id and port is below 2^16.
- * So must the words 4 to 7 of a model row be that its kind does not name, and those of a coupling: write 0 there. */
+ * So must the words 4 to 7 of a model row be that its kind does not name, and those of a coupling: write 0 there. The bits of
+ * a double x are the word that memcpy(&word, &x, sizeof word) makes. */
 enum { JT_MODEL_WORDS = 10, JT_CONNECTOR_WORDS = 4, JT_COUPLING_WORDS = 6, JT_MESSAGE_WORDS = 6 };
 
 /* The most there may be. */
@@ -143,7 +144,8 @@ enum jt_model_word {
     JT_STOPWATCH_METRIC = 8      /* if given: enum jt_metric */
 };
 
-/* The words of a connector row: what leaves a model without parent by a port goes to another's port */
+/* The words of a connector row: what leaves a model without parent by a port goes to another's port. An id that no model has
+ * is no fault: a message to it stands in `rows`, and nobody takes it. */
 enum jt_connector_word {
     JT_CONNECTOR_SOURCE_ID = 0,
     JT_CONNECTOR_SOURCE_PORT = 1,
