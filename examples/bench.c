@@ -5,18 +5,25 @@
 
 #include "jambthrush.h"
 
-/* id, kind, given, parent, ports in (3), port out, setting, batch time (docs/LAYOUT.md). 10.0 is 0x4024000000000000. */
-static const uint64_t models[] = {
-    1, 2, 0, 0, 1, 0, 0, 2, 2, 0x4024000000000000, /* a batcher: two jobs a batch, batch time 10 */
-    2, 1, 2, 0, 1, 0, 0, 2, 8, 0,                  /* a processor: capacity 8 */
+/* The header names the words of each row. What is not named here is 0. */
+static const uint64_t models[][JT_MODEL_WORDS] = {
+    {[JT_MODEL_ID] = 1, [JT_MODEL_KIND] = JT_BATCHER, [JT_BATCHER_IN] = 1, [JT_BATCHER_OUT] = 2,
+     [JT_BATCHER_MAX_BATCH_SIZE] = 2, [JT_BATCHER_MAX_BATCH_TIME] = 0x4024000000000000 /* the bits of 10.0 */},
+    {[JT_MODEL_ID] = 2, [JT_MODEL_KIND] = JT_PROCESSOR, [JT_PROCESSOR_IN] = 1, [JT_PROCESSOR_OUT] = 2,
+     [JT_MODEL_GIVEN] = JT_GIVEN_QUEUE_CAPACITY, [JT_PROCESSOR_QUEUE_CAPACITY] = 8},
 };
-static const uint64_t connectors[] = {1, 2, 2, 1}; /* from 1's port 2 to 2's port 1 */
+static const uint64_t connectors[][JT_CONNECTOR_WORDS] = {
+    {[JT_CONNECTOR_SOURCE_ID] = 1, [JT_CONNECTOR_SOURCE_PORT] = 2, [JT_CONNECTOR_TARGET_ID] = 2, [JT_CONNECTOR_TARGET_PORT] = 1},
+};
 static const double services[] = {4, 5, 6};
 
 #define LEN(array) (sizeof(array) / sizeof(array)[0])
 
+/* The library is lent words: all of a slice's, and not its rows. */
+#define WORDS(rows) (sizeof(rows) / sizeof(uint64_t))
+
 int main(void) {
-    size_t state_len = jt_state_words(LEN(models), LEN(connectors), 0);
+    size_t state_len = jt_state_words(WORDS(models), WORDS(connectors), 0);
     uint64_t *state = calloc(state_len, sizeof *state);
     uint64_t rows[8 * JT_MESSAGE_WORDS];
     uint64_t report[3];
@@ -24,7 +31,7 @@ int main(void) {
 
     if (state == NULL)
         return 1;
-    refusal = jt_post(models, LEN(models), connectors, LEN(connectors), NULL, 0, state, state_len);
+    refusal = jt_post(models[0], WORDS(models), connectors[0], WORDS(connectors), NULL, 0, state, state_len);
     for (uint32_t job = 11; refusal == JT_OK && job <= 13; job++)
         refusal = jt_inject_input(state, state_len, 0, 0, 1, 1, 0.0, job);
     if (refusal == JT_OK)
@@ -37,7 +44,8 @@ int main(void) {
     for (uint64_t i = 0; i < report[1]; i++) {
         const uint64_t *m = rows + i * JT_MESSAGE_WORDS;
         printf("%" PRIu64 ":%" PRIu64 " to %" PRIu64 ":%" PRIu64 " time %016" PRIx64 " content %" PRIu64 "\n",
-               m[0], m[1], m[2], m[3], m[4], m[5]);
+               m[JT_MESSAGE_SOURCE_ID], m[JT_MESSAGE_SOURCE_PORT], m[JT_MESSAGE_TARGET_ID], m[JT_MESSAGE_TARGET_PORT],
+               m[JT_MESSAGE_TIME], m[JT_MESSAGE_CONTENT]);
     }
     free(state);
     return 0;

@@ -16,17 +16,22 @@
 #include "jambthrush.h"
 
 /* The table of examples/bench.c: a batcher feeds a processor. The service times are the same list in every part. */
-static const uint64_t models[] = {
-    1, 2, 0, 0, 1, 0, 0, 2, 2, 0x4024000000000000, /* a batcher: two jobs a batch, batch time 10 */
-    2, 1, 2, 0, 1, 0, 0, 2, 8, 0,                  /* a processor: capacity 8 */
+static const uint64_t models[][JT_MODEL_WORDS] = {
+    {[JT_MODEL_ID] = 1, [JT_MODEL_KIND] = JT_BATCHER, [JT_BATCHER_IN] = 1, [JT_BATCHER_OUT] = 2,
+     [JT_BATCHER_MAX_BATCH_SIZE] = 2, [JT_BATCHER_MAX_BATCH_TIME] = 0x4024000000000000 /* the bits of 10.0 */},
+    {[JT_MODEL_ID] = 2, [JT_MODEL_KIND] = JT_PROCESSOR, [JT_PROCESSOR_IN] = 1, [JT_PROCESSOR_OUT] = 2,
+     [JT_MODEL_GIVEN] = JT_GIVEN_QUEUE_CAPACITY, [JT_PROCESSOR_QUEUE_CAPACITY] = 8},
 };
-static const uint64_t connectors[] = {1, 2, 2, 1}; /* from 1's port 2 to 2's port 1 */
+static const uint64_t connectors[][JT_CONNECTOR_WORDS] = {
+    {[JT_CONNECTOR_SOURCE_ID] = 1, [JT_CONNECTOR_SOURCE_PORT] = 2, [JT_CONNECTOR_TARGET_ID] = 2, [JT_CONNECTOR_TARGET_PORT] = 1},
+};
 static const double services[] = {4, 5, 6};
 
 #define LEN(array) (sizeof(array) / sizeof(array)[0])
+#define WORDS(rows) (sizeof(rows) / sizeof(uint64_t))
 
 /* What jt_state_words says of this table, what stands before the changing part (docs/LAYOUT.md), rows for all of its run. */
-enum { STATE_WORDS = 1542 + 206 * 2 + 4 * 1, TABLE_WORDS = 3 + LEN(models) + LEN(connectors), MOST_ROWS = 8 };
+enum { STATE_WORDS = 1542 + 206 * 2 + 4 * 1, TABLE_WORDS = 3 + WORDS(models) + WORDS(connectors), MOST_ROWS = 8 };
 
 /* A run so far, and all that it takes to go on. The file holds these words with the bytes as this machine has them, so it is
  * for machines of the same byte order. `load` checks what could lead astray, the library with 20 that the state is one. That
@@ -47,7 +52,8 @@ static void fail(const char *what, const char *why) {
 }
 
 static void begin(void) {
-    uint32_t refusal = jt_post(models, LEN(models), connectors, LEN(connectors), NULL, 0, run.state, STATE_WORDS);
+    uint32_t refusal = jt_post(models[0], WORDS(models), connectors[0], WORDS(connectors), NULL, 0, run.state,
+                               STATE_WORDS);
     for (uint32_t job = 11; refusal == JT_OK && job <= 13; job++)
         refusal = jt_inject_input(run.state, STATE_WORDS, 0, 0, 1, 1, 0.0, job);
     if (refusal != JT_OK)
@@ -110,7 +116,8 @@ static void print(void) {
     for (uint64_t i = 0; i < run.row_count; i++) {
         const uint64_t *m = run.rows + i * JT_MESSAGE_WORDS;
         printf("%" PRIu64 ":%" PRIu64 " to %" PRIu64 ":%" PRIu64 " time %016" PRIx64 " content %" PRIu64 "\n",
-               m[0], m[1], m[2], m[3], m[4], m[5]);
+               m[JT_MESSAGE_SOURCE_ID], m[JT_MESSAGE_SOURCE_PORT], m[JT_MESSAGE_TARGET_ID], m[JT_MESSAGE_TARGET_PORT],
+               m[JT_MESSAGE_TIME], m[JT_MESSAGE_CONTENT]);
     }
     printf("%" PRIu64 " steps, %" PRIu64 " rows, answer %" PRIu64 ", clock %016" PRIx64 "\n",
            run.steps, run.row_count, run.number, changing[1]);

@@ -91,8 +91,94 @@ enum jt_part { JT_NOWHERE = 0, JT_MODELS = 1, JT_CONNECTORS = 2, JT_COUPLINGS = 
 /* What queue_capacity is in a processor's row that omits it: the 33rd job is dropped. */
 enum { JT_OMITTED_CAPACITY = 32 };
 
-/* Words of a row: a model, a connector, a coupling, a message. */
+/* A table is three slices of words: models, connectors, couplings. In each, row stands after row, and each row has so many
+ * words: word JT_MODEL_KIND of the model row k is models[k * JT_MODEL_WORDS + JT_MODEL_KIND]. Each id and port is below 2^16.
+ * So must the words 4 to 7 of a model row be that its kind does not name, and those of a coupling: write 0 there. The bits of
+ * a double x are the word that memcpy(&word, &x, sizeof word) makes. */
 enum { JT_MODEL_WORDS = 10, JT_CONNECTOR_WORDS = 4, JT_COUPLING_WORDS = 6, JT_MESSAGE_WORDS = 6 };
+
+/* The most there may be. */
+enum jt_most {
+    JT_MOST_MODELS = 64,         /* model rows, components counted */
+    JT_MOST_CONNECTORS = 256,    /* connector rows */
+    JT_MOST_COUPLINGS = 256,     /* coupling rows, of all three kinds together */
+    JT_MOST_DEPTH = 4,           /* Coupleds in one another; the innermost may hold other models */
+    JT_MOST_JOBS = 64,           /* in one processor, batcher or stopwatch */
+    JT_MOST_PARKED = 64,         /* messages parked in one Coupled */
+    JT_MOST_MESSAGES = 256       /* active at a time, or out of one internal event */
+};
+
+/* Word JT_MODEL_KIND of a model row */
+enum jt_model_kind { JT_PROCESSOR = 1, JT_BATCHER = 2, JT_STOPWATCH = 3, JT_COUPLED = 4 };
+
+/* Word JT_MODEL_GIVEN of a model row: of the fields that may be omitted, those that are given, added up */
+enum jt_given {
+    JT_GIVEN_PARENT = 1,         /* of any kind; omitted: the model is no component */
+    JT_GIVEN_QUEUE_CAPACITY = 2, /* of a processor; omitted: JT_OMITTED_CAPACITY */
+    JT_GIVEN_METRIC = 4          /* of a stopwatch; omitted: JT_MINIMUM */
+};
+
+/* Word JT_STOPWATCH_METRIC of a stopwatch's row: which job it names when it is asked */
+enum jt_metric { JT_MINIMUM = 0, JT_MAXIMUM = 1 };
+
+/* The words of a model row: those of every kind, then those of each */
+enum jt_model_word {
+    JT_MODEL_ID = 0,             /* unlike every other id of the table */
+    JT_MODEL_KIND = 1,           /* enum jt_model_kind */
+    JT_MODEL_GIVEN = 2,          /* enum jt_given, added up */
+    JT_MODEL_PARENT = 3,         /* if given: the id of the Coupled that it is a component of, whose row is an earlier one */
+
+    JT_PROCESSOR_IN = 4,         /* the port at which jobs come */
+    JT_PROCESSOR_OUT = 7,        /* the port at which they leave */
+    JT_PROCESSOR_QUEUE_CAPACITY = 8, /* if given: how many jobs it holds at most, the one in work counted */
+
+    JT_BATCHER_IN = 4,           /* the port at which jobs come; it is not looked at: they may come at any */
+    JT_BATCHER_OUT = 7,          /* the port at which they leave */
+    JT_BATCHER_MAX_BATCH_SIZE = 8, /* jobs a batch, 1 to 2^62 */
+    JT_BATCHER_MAX_BATCH_TIME = 9, /* how long a batch waits for more: the bits of a double, 0 to 2^60 */
+
+    JT_STOPWATCH_START = 4,      /* the port at which a job that begins is told; the three are three different ports */
+    JT_STOPWATCH_STOP = 5,       /* the port at which a job that ends is told */
+    JT_STOPWATCH_ASK = 6,        /* the port at which it is asked for a job */
+    JT_STOPWATCH_OUT = 7,        /* the port at which it answers */
+    JT_STOPWATCH_METRIC = 8      /* if given: enum jt_metric */
+};
+
+/* The words of a connector row: what leaves a model without parent by a port goes to another's port. An id that no model has
+ * is no fault: a message to it stands in `rows`, and nobody takes it. */
+enum jt_connector_word {
+    JT_CONNECTOR_SOURCE_ID = 0,
+    JT_CONNECTOR_SOURCE_PORT = 1,
+    JT_CONNECTOR_TARGET_ID = 2,
+    JT_CONNECTOR_TARGET_PORT = 3
+};
+
+/* Word JT_COUPLING_KIND of a coupling row */
+enum jt_coupling_kind {
+    JT_EXTERNAL_INPUT = 1,       /* from a port of the Coupled to a component; names no source id */
+    JT_EXTERNAL_OUTPUT = 2,      /* from a component to a port of the Coupled; names no target id */
+    JT_INTERNAL = 3              /* from a component to a component */
+};
+
+/* The words of a coupling row */
+enum jt_coupling_word {
+    JT_COUPLING_OWNER_ID = 0,    /* the Coupled */
+    JT_COUPLING_KIND = 1,        /* enum jt_coupling_kind */
+    JT_COUPLING_SOURCE_ID = 2,   /* a component of it; 0 in an external input */
+    JT_COUPLING_SOURCE_PORT = 3,
+    JT_COUPLING_TARGET_ID = 4,   /* a component of it; 0 in an external output */
+    JT_COUPLING_TARGET_PORT = 5
+};
+
+/* The words of a message, as `rows` has them */
+enum jt_message_word {
+    JT_MESSAGE_SOURCE_ID = 0,
+    JT_MESSAGE_SOURCE_PORT = 1,
+    JT_MESSAGE_TARGET_ID = 2,
+    JT_MESSAGE_TARGET_PORT = 3,
+    JT_MESSAGE_TIME = 4,         /* the bits of a double */
+    JT_MESSAGE_CONTENT = 5       /* below 2^32: the job's number */
+};
 
 /* How many words a state buffer must have for any state of a table of these lengths (in words), at least 1542 and at most
  * 17286. Every call on a state refuses a shorter buffer with JT_BAD_STATE, and leaves longer ones alone beyond the state's end.

@@ -1,9 +1,11 @@
-/* The numbers in a model row and in a coupling (docs/LAYOUT.md). */
+/* The header's numbers of kinds and given fields, by short names. */
 #ifndef KINDS_H
 #define KINDS_H
 
-enum { PARENT_GIVEN = 1, CAPACITY_GIVEN = 2, METRIC_GIVEN = 4 };
-enum { PROCESSOR = 1, BATCHER = 2, STOPWATCH = 3, COUPLED = 4 };
-enum { EXTERNAL_INPUT = 1, EXTERNAL_OUTPUT = 2, INTERNAL = 3 };
+#include "jambthrush.h"
+
+enum { PARENT_GIVEN = JT_GIVEN_PARENT, CAPACITY_GIVEN = JT_GIVEN_QUEUE_CAPACITY, METRIC_GIVEN = JT_GIVEN_METRIC };
+enum { PROCESSOR = JT_PROCESSOR, BATCHER = JT_BATCHER, STOPWATCH = JT_STOPWATCH, COUPLED = JT_COUPLED };
+enum { EXTERNAL_INPUT = JT_EXTERNAL_INPUT, EXTERNAL_OUTPUT = JT_EXTERNAL_OUTPUT, INTERNAL = JT_INTERNAL };
 
 #endif
