@@ -250,7 +250,7 @@ fn wrong(line: u64, column: usize, expected: Expected) -> Reading
 }
 
 // How many bytes the byte order mark takes that may stand at a file's start.
-fn mark_length(text: &[u8]) -> usize
+pub fn mark_length(text: &[u8]) -> usize
     ensures { λ r. ⌜ r ≡ markSpan (now (text .entry)) ⌝ }
 {
     if text.len() < 3 {

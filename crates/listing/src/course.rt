@@ -26,6 +26,8 @@ pub(crate) struct Course {
     pub refusal: Refusal,
     // Whether the last step of a `step_until` reached its time.
     pub reached: bool,
+    // Whether the last action was a `step_until_idle` that ended idle.
+    pub idle: bool,
 }
 
 // What a person asked for: the messages' rows, clocks in decimal, no warnings.
@@ -42,6 +44,7 @@ pub(crate) fn start() -> Course {
         status: RAN,
         refusal: Refusal::Idle,
         reached: false,
+        idle: false,
     }
 }
 
@@ -58,7 +61,23 @@ pub(crate) fn refused(c: Course, refusal: Refusal) -> Course {
         status: REFUSED,
         refusal,
         reached: false,
+        idle: false,
     }
+}
+
+// An action begins.
+pub(crate) fn busy(course: Course) -> Course {
+    let mut c = course;
+    c.idle = false;
+    c
+}
+
+// Nothing is left to do: no refusal of the run.
+pub(crate) fn idle(course: Course) -> Course {
+    let mut c = course;
+    c.status = RAN;
+    c.idle = true;
+    c
 }
 
 // A step was made.

@@ -2,28 +2,34 @@
 use crate::course;
 use crate::course::Course;
 
-// Writes what waits. Once that failed, nothing more is written.
-pub(crate) fn flush(out: &[u8], c: Course) -> Course {
-    let mut after = c;
-    after.held = 0;
-    let held = c.held;
-    if out.len() < held {
-        return after;
+// Writes bytes to standard output: the status where that fails.
+fn write(bytes: &[u8], status: u64) -> u64 {
+    if status == course::LOST {
+        return status;
     }
-    if c.status == course::LOST {
-        return after;
+    if status == course::LEFT {
+        return status;
     }
-    if c.status == course::LEFT {
-        return after;
-    }
-    if io::write_all(libc::STDOUT_FILENO, &out[..held]) {
-        return after;
+    if io::write_all(libc::STDOUT_FILENO, bytes) {
+        return status;
     }
     if os::errno() == libc::EPIPE {
-        return course::ended(after, course::LEFT);
+        return course::LEFT;
     }
     os::fail(b"jambthrush: standard output");
-    course::ended(after, course::LOST)
+    course::LOST
+}
+
+// Writes what waits. Once that failed, nothing more is written.
+pub(crate) fn flush(out: &[u8], c: Course) -> Course {
+    let held = c.held;
+    if out.len() < held {
+        return c;
+    }
+    let status = write(&out[..held], c.status);
+    let mut after = course::ended(c, status);
+    after.held = 0;
+    after
 }
 
 fn byte(out: &mut [u8], c: Course, b: u8) -> Course {
@@ -68,4 +74,45 @@ pub(crate) fn padded(out: &mut [u8], c: Course, filled: [u8; 32]) -> Course {
         return c;
     }
     text(out, c, &filled[..length])
+}
+
+// A time in decimal: at most six places after the point, and no zeros at their end.
+pub(crate) fn decimal(out: &mut [u8], c: Course, time: f64) -> Course {
+    let read = decimals::micros_of(time);
+    let after = number(out, c, read.whole);
+    if read.micros == 0 {
+        return after;
+    }
+    let places = six(read.micros);
+    let end = significant(places);
+    if 6 < end {
+        return after;
+    }
+    let point = text(out, after, b".");
+    text(out, point, &places[..end])
+}
+
+// The six digits of a number below 1,000,000.
+pub(crate) fn six(micros: u64) -> [u8; 6] {
+    let mut digits = [b'0'; 6];
+    let mut rest = micros;
+    let mut at = 6;
+    while 0 < at {
+        at -= 1;
+        digits[at] = b'0' + (rest % 10) as u8;
+        rest = rest / 10;
+    }
+    digits
+}
+
+// How many there are before the zeros at the end.
+pub(crate) fn significant(digits: [u8; 6]) -> usize {
+    let mut end = 6;
+    while 0 < end {
+        if digits[end - 1] != b'0' {
+            return end;
+        }
+        end -= 1;
+    }
+    0
 }

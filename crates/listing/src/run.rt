@@ -1,11 +1,18 @@
 // Runs what a bench file says.
+use crate::course;
+use crate::course::Course;
+use crate::course::Settings;
+use crate::input;
+use crate::out;
 use crate::say;
 use crate::steps;
-use crate::steps::Then;
+use crate::warn;
 use bench_file::Counts;
+use bench_file::Page;
 use bench_file::Reading;
 use memory::Answer;
 use rules::Message;
+use rules::Refusal;
 use times::TimeOf;
 ghost use Prim.Native.Nat.{_≤_};
 ghost use lib.ListN.{length};
@@ -23,13 +30,13 @@ fn used(rows: usize, width: usize, page: &[u64]) -> usize
     rows * width
 }
 
-// The file is read whole before anything is run.
-pub(crate) fn file(text: &[u8]) {
+// The file is read whole before anything is run. How it ended.
+pub(crate) fn file(path: &[u8], text: &[u8]) -> u64 {
     let mut models = [0u64; 1280];
     let mut connectors = [0u64; 2048];
     let mut couplings = [0u64; 3072];
-    let mut services = [0u64; 4096];
-    let mut actions = [0u64; 7168];
+    let mut services = [0u64; 65536];
+    let mut actions = [0u64; 114688];
     let reading = bench_file::read(
         text,
         &mut models,
@@ -39,8 +46,17 @@ pub(crate) fn file(text: &[u8]) {
         &mut actions,
     );
     match reading {
-        Reading::Wrong { line, expected } => say::wrong_line(line, expected),
+        Reading::Wrong {
+            line,
+            column,
+            expected,
+        } => {
+            say::wrong_line(path, text, line, column, expected);
+            course::WRONG
+        }
         Reading::Read(counts) => posted(
+            path,
+            text,
             &models,
             &connectors,
             &couplings,
@@ -53,29 +69,47 @@ pub(crate) fn file(text: &[u8]) {
 
 // Posts the table, and goes on with the actions.
 fn posted(
+    path: &[u8],
+    text: &[u8],
     models: &[u64],
     connectors: &[u64],
     couplings: &[u64],
     services: &[u64],
     actions: &[u64],
     counts: Counts,
-) {
+) -> u64 {
     let rows = &models[0..used(counts.models, 10, models)];
     let links = &connectors[0..used(counts.connectors, 4, connectors)];
     let inner = &couplings[0..used(counts.couplings, 6, couplings)];
+    let times = &services[0..used(counts.services, 1, services)];
+    let orders = &actions[0..used(counts.actions, 7, actions)];
     let mut state = [0u64; 17286];
+    let settings = input::settings(counts.rows);
     match simulation::post(rows, links, inner, &mut state) {
-        Answer::Refused(refusal) => {
-            say::refused(refusal);
-            say::verdict(table::intake(rows, links, inner));
-        }
+        Answer::Refused(refusal) => refused_table(path, text, rows, links, inner, refusal),
         Answer::Done => {
-            say::omitted(capacities::omitted(rows));
-            let times = &services[0..used(counts.services, 1, services)];
-            let orders = &actions[0..used(counts.actions, 7, actions)];
-            begin(&mut state, times, orders, counts.rows);
+            if !settings.quiet {
+                say::omitted(capacities::omitted(rows));
+                warn::ends(path, text, rows, links, inner, orders);
+            }
+            begin(path, text, rows, &mut state, times, orders, settings)
         }
     }
+}
+
+fn refused_table(
+    path: &[u8],
+    text: &[u8],
+    models: &[u64],
+    connectors: &[u64],
+    couplings: &[u64],
+    refusal: Refusal,
+) -> u64 {
+    let mut buffer = io::buffer();
+    let c = refused(&mut buffer, course::refused(course::start(), refusal));
+    let status = out::flush(&buffer, c).status;
+    say::verdict(path, text, table::intake(models, connectors, couplings));
+    status
 }
 
 // The service times, from their bits, as many as there is room for.
@@ -90,47 +124,185 @@ fn lay(times: &mut [f64], bits: &[u64]) {
     }
 }
 
+fn first_line(buffer: &mut [u8], settings: Settings) -> Course {
+    if settings.decimal {
+        return out::text(buffer, course::start(), b"step clock decimal messages\n");
+    }
+    out::text(buffer, course::start(), b"step clock messages\n")
+}
+
 // There is room for as many service times as a file can have.
-fn begin(state: &mut [u64], bits: &[u64], actions: &[u64], show: bool) {
-    let mut times = [0f64; 4096];
+fn begin(
+    path: &[u8],
+    text: &[u8],
+    models: &[u64],
+    state: &mut [u64],
+    bits: &[u64],
+    actions: &[u64],
+    settings: Settings,
+) -> u64 {
+    let mut times = [0f64; 65536];
     lay(&mut times, bits);
-    say::text(b"step clock messages\n");
-    if bits.len() <= 4096 {
-        act(state, &times[0..bits.len()], actions, show);
+    let mut buffer = io::large_buffer();
+    let mut c = first_line(&mut buffer, settings);
+    if bits.len() <= 65536 {
+        c = act(
+            path,
+            text,
+            models,
+            state,
+            &times[0..bits.len()],
+            actions,
+            &mut buffer,
+            c,
+            settings,
+        );
+    }
+    let after = out::flush(&buffer, c);
+    if after.status == course::RAN {
+        if !settings.quiet {
+            left_over(path, text, state, bits.len());
+        }
+    }
+    after.status
+}
+
+// Where the changing part of a state begins. It is behind the table, whose rows the first three words count.
+fn changing_at(state: &[u64]) -> usize {
+    let models = words::word_at(state, 0);
+    let connectors = words::word_at(state, 1);
+    let couplings = words::word_at(state, 2);
+    if 64 < models {
+        return 0;
+    }
+    if 256 < connectors {
+        return 0;
+    }
+    if 256 < couplings {
+        return 0;
+    }
+    3 + 10 * models as usize + 4 * connectors as usize + 6 * couplings as usize
+}
+
+fn left_over(path: &[u8], text: &[u8], state: &[u64], given: usize) {
+    let at = changing_at(state);
+    if at <= state.len() {
+        warn::services(path, text, &state[at..], given);
+    }
+}
+
+fn still_held(path: &[u8], text: &[u8], models: &[u64], state: &[u64], row: usize) {
+    let at = changing_at(state);
+    if at <= state.len() {
+        warn::held(path, text, row, models, &state[at..]);
     }
 }
 
 // The actions in the file's order, up to one that is refused.
-fn act(state: &mut [u64], services: &[f64], actions: &[u64], show: bool) {
-    let mut number = 1;
+fn act(
+    path: &[u8],
+    text: &[u8],
+    models: &[u64],
+    state: &mut [u64],
+    services: &[f64],
+    actions: &[u64],
+    buffer: &mut [u8],
+    first: Course,
+    settings: Settings,
+) -> Course {
+    let mut rows = [0u64; 1536];
+    let mut c = first;
     let mut at = 0;
+    let mut row = 0;
     while 7 <= actions.len() - at {
-        match action(state, services, &actions[at..at + 7], number, show) {
-            Then::Goes(next) => {
-                number = next;
-            }
-            Then::Stops => return,
+        c = action(
+            state,
+            services,
+            &actions[at..at + 7],
+            &mut rows,
+            buffer,
+            course::busy(c),
+            settings,
+        );
+        c = acted(path, text, models, state, buffer, row, c, settings);
+        if c.status != course::RAN {
+            return c;
         }
         at += 7;
+        row += 1;
     }
+    c
+}
+
+// What is said after an action: that it was refused, or what is held where it ended idle.
+fn acted(
+    path: &[u8],
+    text: &[u8],
+    models: &[u64],
+    state: &[u64],
+    buffer: &mut [u8],
+    row: usize,
+    c: Course,
+    settings: Settings,
+) -> Course {
+    if c.status == course::REFUSED {
+        let told = refused(buffer, c);
+        let after = out::flush(buffer, told);
+        say::place(path, bench_file::line_of(text, Page::Actions, row));
+        say::refused(c, steps::clock(state));
+        return after;
+    }
+    if c.idle {
+        if !settings.quiet {
+            still_held(path, text, models, state, row);
+        }
+    }
+    c
+}
+
+// How something ended by a refusal: its number and name.
+fn refused(buffer: &mut [u8], c: Course) -> Course {
+    let refusal = c.refusal;
+    let mut after = out::text(buffer, c, b"refused ");
+    after = out::number(buffer, after, rules::number(refusal) as u64);
+    after = out::text(buffer, after, b" ");
+    after = out::padded(buffer, after, say::name(refusal));
+    out::text(buffer, after, b"\n")
 }
 
 // One action, a row of seven words.
-fn action(state: &mut [u64], services: &[f64], row: &[u64], number: u64, show: bool) -> Then {
+fn action(
+    state: &mut [u64],
+    services: &[f64],
+    row: &[u64],
+    rows: &mut [u64],
+    buffer: &mut [u8],
+    c: Course,
+    settings: Settings,
+) -> Course {
     if row.len() < 7 {
-        return Then::Stops;
+        return c;
     }
     let what = row[0];
     if what == 1 {
-        return inject(state, message_of(row), number);
+        return inject(state, message_of(row), c);
     }
     if what == 2 {
-        return steps::count(state, services, row[1], number, show);
+        return steps::count(state, services, row[1], rows, buffer, c, settings);
     }
     if what == 3 {
-        return steps::until(state, services, time_of(row[1]), row[2], number, show);
+        return steps::until(
+            state,
+            services,
+            time_of(row[1]),
+            row[2],
+            rows,
+            buffer,
+            c,
+            settings,
+        );
     }
-    steps::until_idle(state, services, row[1], number, show)
+    steps::until_idle(state, services, row[1], rows, buffer, c, settings)
 }
 
 // The time that has these bits. What is no time stays none: infinity stands for all of that, and every call refuses them alike.
@@ -169,12 +341,9 @@ fn message_of(row: &[u64]) -> Message {
     }
 }
 
-fn inject(state: &mut [u64], message: Message, number: u64) -> Then {
+fn inject(state: &mut [u64], message: Message, c: Course) -> Course {
     match simulation::inject_input(state, message) {
-        Answer::Done => Then::Goes(number),
-        Answer::Refused(refusal) => {
-            say::refused(refusal);
-            Then::Stops
-        }
+        Answer::Done => c,
+        Answer::Refused(refusal) => course::refused(c, refusal),
     }
 }

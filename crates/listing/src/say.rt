@@ -1,39 +1,171 @@
-// What the listing writes: lines to standard output, and to standard error what is wrong with the file or left out in it.
+// What standard error says: what is wrong with the file, why something was refused, and what is left out.
+use crate::course::Course;
+use crate::out;
 use bench_file::Expected;
+use bench_file::Page;
+use bench_file::Value;
+use bench_file::Wanted;
+use bench_file::Word;
 use rules::Refusal;
 use table::Verdict;
 
+// How many bytes of a word are shown.
+const SHOWN: usize = 40;
+
 pub(crate) fn text(bytes: &[u8]) {
-    io::write_all(1, bytes);
+    io::write_all(libc::STDERR_FILENO, bytes);
 }
 
 pub(crate) fn number(n: u64) {
-    io::print_decimal(1, n);
+    io::print_decimal(libc::STDERR_FILENO, n);
 }
 
-pub(crate) fn bits(word: u64) {
-    io::print_hex(1, word, 16);
+pub(crate) fn too_long(path: &[u8]) {
+    text(path);
+    text(b": the file is longer than 4194303 bytes\n");
 }
 
-pub(crate) fn wrong(bytes: &[u8]) {
-    io::write_all(2, bytes);
+// `FILE:LINE: `
+pub(crate) fn place(path: &[u8], line: u64) {
+    text(path);
+    text(b":");
+    number(line);
+    text(b": ");
 }
 
 // A text without the dots that fill it up.
-fn wrong_text(asked: [u8; 32]) {
+fn padded(asked: [u8; 32]) {
     let length = bench_file::text_length(asked);
     if length <= 32 {
-        wrong(&asked[0..length]);
+        text(&asked[0..length]);
+    }
+}
+
+// The optional word that may stand there too.
+fn or_word(word: Word) {
+    match word {
+        Word::Nothing => {}
+        other => {
+            padded(bench_file::word_text(other));
+            text(b" or ");
+        }
+    }
+}
+
+// What may stand there, where its name does not say it.
+fn explained(wanted: Wanted) {
+    match wanted {
+        Wanted::AnItem => text(
+            b" (processor, batcher, stopwatch, coupled, connector, input, output, internal, service, inject_input, step_n, step_until, step_until_idle, rows)",
+        ),
+        Wanted::NoMore => {
+            text(
+                b" (128 models, 512 connectors, 512 couplings, 65536 service times, 16384 actions)",
+            )
+        }
+        Wanted::AValue(value) => explained_value(value),
+        Wanted::TheWord(_) => {}
+    }
+}
+
+fn explained_value(value: Value) {
+    if let Value::ATime = value {
+        text(
+            b" (a whole number up to 9007199254740992; digits, a point, digits, 15 in all at most; 0x and 16 hex digits)",
+        );
+    }
+}
+
+// A byte of a word: what cannot be printed is shown as \xNN.
+fn byte(b: u8) {
+    if b < b' ' {
+        return escaped(b);
+    }
+    if b'~' < b {
+        return escaped(b);
+    }
+    text(&[b]);
+}
+
+fn escaped(b: u8) {
+    text(b"\\x");
+    io::print_hex(libc::STDERR_FILENO, b as u64, 2);
+}
+
+// A word, cut where it is long.
+fn quoted(word: &[u8]) {
+    text(b"'");
+    let mut at = 0;
+    while at < word.len() {
+        if SHOWN <= at {
+            text(b"'..");
+            return;
+        }
+        byte(word[at]);
+        at += 1;
+    }
+    text(b"'");
+}
+
+// Where a line starts, lines counted from 1.
+fn line_start(text: &[u8], line: u64) -> usize {
+    let mut left = line;
+    let mut at = bench_file::mark_length(text);
+    while 1 < left {
+        let end = bench_words::line_end(text, at);
+        if text.len() <= end {
+            return text.len();
+        }
+        at = end + 1;
+        left -= 1;
+    }
+    at
+}
+
+// The word that stands at a place of a line, or the line's end.
+fn found(line: &[u8], at: usize) {
+    let span = bench_words::next_word(line, at);
+    let start = span.start;
+    let end = span.end;
+    if end <= start {
+        text(b"the end of the line");
+        return;
+    }
+    if end <= line.len() {
+        quoted(&line[start..end]);
     }
 }
 
 // A line that is not what the format asks for. Nothing is run.
-pub(crate) fn wrong_line(line: u64, expected: Expected) {
-    wrong(b"line ");
-    io::print_decimal(2, line);
-    wrong(b": expected ");
-    wrong_text(bench_file::expected_text(expected));
-    wrong(b"\n");
+pub(crate) fn wrong_line(path: &[u8], file: &[u8], line: u64, column: usize, expected: Expected) {
+    text(path);
+    text(b":");
+    number(line);
+    text(b":");
+    number(column as u64);
+    text(b": expected ");
+    let or = expected.or;
+    let what = expected.what;
+    or_word(or);
+    padded(bench_file::wanted_text(what));
+    explained(what);
+    text(b", found ");
+    found_in(file, line, column);
+    text(b"\n");
+}
+
+fn found_in(file: &[u8], line: u64, column: usize) {
+    let start = line_start(file, line);
+    if start <= file.len() {
+        let end = bench_words::line_end(file, start);
+        if end <= file.len() {
+            if start <= end {
+                if 0 < column {
+                    found(&file[start..end], column - 1);
+                }
+            }
+        }
+    }
 }
 
 // How many processor lines omit `queue_capacity`, and what it is in them. Where none does, nothing is said.
@@ -41,78 +173,85 @@ pub(crate) fn omitted(lines: usize) {
     if lines == 0 {
         return;
     }
-    wrong(b"note: processor lines without queue_capacity: ");
-    io::print_decimal(2, lines as u64);
-    wrong(b" (");
-    io::print_decimal(2, rules::OMITTED_CAPACITY);
-    wrong(b" each)\n");
+    text(b"note: processor lines without queue_capacity: ");
+    number(lines as u64);
+    text(b" (");
+    number(rules::OMITTED_CAPACITY);
+    text(b" each)\n");
 }
 
-fn name(refusal: Refusal) {
+// The name of a refusal, filled up with dots to 32 bytes.
+pub(crate) fn name(refusal: Refusal) -> [u8; 32] {
     match refusal {
-        Refusal::TooLarge => text(b" TooLarge"),
-        Refusal::BadRow => text(b" BadRow"),
-        Refusal::BadCoupling => text(b" BadCoupling"),
-        Refusal::ModelNotFound => text(b" ModelNotFound"),
-        Refusal::InvalidMessage => text(b" InvalidMessage"),
-        Refusal::InvalidModelState => text(b" InvalidModelState"),
-        Refusal::NoQueueRoom => text(b" NoQueueRoom"),
-        Refusal::NoMessageRoom => text(b" NoMessageRoom"),
-        Refusal::NoServiceTime => text(b" NoServiceTime"),
-        Refusal::BadTime => text(b" BadTime"),
-        Refusal::ClockOverflow => text(b" ClockOverflow"),
-        Refusal::Idle => text(b" Idle"),
-        Refusal::NoOutRoom => text(b" NoOutRoom"),
-        Refusal::BadState => text(b" BadState"),
+        Refusal::TooLarge => *b"TooLarge........................",
+        Refusal::BadRow => *b"BadRow..........................",
+        Refusal::BadCoupling => *b"BadCoupling.....................",
+        Refusal::ModelNotFound => *b"ModelNotFound...................",
+        Refusal::InvalidMessage => *b"InvalidMessage..................",
+        Refusal::InvalidModelState => *b"InvalidModelState...............",
+        Refusal::NoQueueRoom => *b"NoQueueRoom.....................",
+        Refusal::NoMessageRoom => *b"NoMessageRoom...................",
+        Refusal::NoServiceTime => *b"NoServiceTime...................",
+        Refusal::BadTime => *b"BadTime.........................",
+        Refusal::ClockOverflow => *b"ClockOverflow...................",
+        Refusal::Idle => *b"Idle............................",
+        Refusal::NoOutRoom => *b"NoOutRoom.......................",
+        Refusal::BadState => *b"BadState........................",
     }
 }
 
-// How a run ended by a refusal: its number and name.
-pub(crate) fn refused(refusal: Refusal) {
+// `refused N NAME`
+fn refusal_of(c: Course) {
+    let refusal = c.refusal;
     text(b"refused ");
     number(rules::number(refusal) as u64);
-    name(refusal);
-    text(b"\n");
+    text(b" ");
+    padded(name(refusal));
 }
 
-// Which line of its kind is bad, counted from 1.
-fn at(kind: &[u8], row: usize) {
-    text(b"the bad one is ");
-    text(kind);
-    text(b" line ");
-    if row < 1000 {
-        number(row as u64 + 1);
+// A time in decimal, as the listing has it.
+fn decimal(time: f64) {
+    let read = decimals::micros_of(time);
+    number(read.whole);
+    if read.micros == 0 {
+        return;
     }
-    text(b"\n");
+    let places = out::six(read.micros);
+    let end = out::significant(places);
+    if end <= 6 {
+        text(b".");
+        text(&places[..end]);
+    }
+}
+
+// An action that was refused, and where the run stood.
+pub(crate) fn refused(c: Course, clock: f64) {
+    refusal_of(c);
+    text(b" in step ");
+    number(c.number);
+    text(b", clock ");
+    io::print_hex(libc::STDERR_FILENO, times::bits_of(clock), 16);
+    text(b" (");
+    decimal(clock);
+    text(b")\n");
+}
+
+// A row of a table that was refused.
+fn bad(path: &[u8], file: &[u8], page: Page, row: usize) {
+    place(path, bench_file::line_of(file, page, row));
+    text(b"breaks a rule of the table\n");
 }
 
 // Where a table is bad.
-pub(crate) fn verdict(verdict: Verdict) {
+pub(crate) fn verdict(path: &[u8], file: &[u8], verdict: Verdict) {
     match verdict {
-        Verdict::TooLarge => text(b"at most 64 models, 256 connectors, 256 couplings\n"),
-        Verdict::BadRow(row) => at(b"model", row),
-        Verdict::BadConnector(row) => at(b"connector", row),
-        Verdict::BadCoupling(row) => at(b"coupling", row),
+        Verdict::TooLarge => {
+            text(path);
+            text(b": at most 64 models, 256 connectors, 256 couplings\n")
+        }
+        Verdict::BadRow(row) => bad(path, file, Page::Models, row),
+        Verdict::BadConnector(row) => bad(path, file, Page::Connectors, row),
+        Verdict::BadCoupling(row) => bad(path, file, Page::Couplings, row),
         Verdict::Passed => {}
     }
-}
-
-// A message, as a row of six words.
-pub(crate) fn message(row: &[u64]) {
-    if row.len() < 6 {
-        return;
-    }
-    text(b"  ");
-    number(row[0]);
-    text(b":");
-    number(row[1]);
-    text(b" to ");
-    number(row[2]);
-    text(b":");
-    number(row[3]);
-    text(b" time ");
-    bits(row[4]);
-    text(b" content ");
-    number(row[5]);
-    text(b"\n");
 }

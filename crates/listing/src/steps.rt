@@ -1,113 +1,126 @@
 // Runs step by step, and a line for each step: its number, the clock as bits, how many messages are active.
-use crate::say;
+use crate::course;
+use crate::course::Course;
+use crate::course::Settings;
+use crate::out;
 use engine::End;
+use engine::Report;
 use rules::Refusal;
 use simulation::Clock;
 use simulation::Listing;
 
-// Whether the file goes on, and with which step.
-pub(crate) enum Then {
-    Goes(u64),
-    Stops,
-}
-
-// The step after this one.
-fn next(number: u64) -> u64 {
-    if number == u64::MAX {
-        return number;
-    }
-    number + 1
-}
-
-fn clock(state: &[u64]) {
+// The clock. A state that is no state has none, and then the step was refused.
+pub(crate) fn clock(state: &[u64]) -> f64 {
     match simulation::get_global_time(state) {
-        Clock::Time(time) => say::bits(times::bits_of(time)),
-        Clock::Refused(refusal) => say::refused(refusal),
+        Clock::Time(time) => time,
+        Clock::Refused(_) => 0.0,
     }
 }
 
-fn messages(state: &[u64]) {
+// How many messages are active.
+fn active(state: &[u64]) -> u64 {
     let mut rows = [0u64; 1536];
     match simulation::get_messages(state, &mut rows) {
-        Listing::Count(count) => say::number(count as u64),
-        Listing::Refused(refusal) => say::refused(refusal),
+        Listing::Count(count) => count as u64,
+        Listing::Refused(_) => 0,
     }
+}
+
+// A message, as a row of six words.
+fn message(out: &mut [u8], c: Course, row: &[u64]) -> Course {
+    if row.len() < 6 {
+        return c;
+    }
+    let mut after = out::text(out, c, b"  ");
+    after = out::number(out, after, row[0]);
+    after = out::text(out, after, b":");
+    after = out::number(out, after, row[1]);
+    after = out::text(out, after, b" to ");
+    after = out::number(out, after, row[2]);
+    after = out::text(out, after, b":");
+    after = out::number(out, after, row[3]);
+    after = out::text(out, after, b" time ");
+    after = out::bits(out, after, row[4]);
+    after = out::text(out, after, b" content ");
+    after = out::number(out, after, row[5]);
+    out::text(out, after, b"\n")
 }
 
 // The rows that a step laid down.
-fn rows_of(rows: &[u64], written: usize) {
+fn rows_of(out: &mut [u8], c: Course, rows: &[u64], written: usize) -> Course {
+    let mut after = c;
     let mut at = 0;
     let mut row = 0;
     while 6 <= rows.len() - at {
         if written <= row {
-            return;
+            return after;
         }
-        say::message(&rows[at..at + 6]);
+        after = message(out, after, &rows[at..at + 6]);
         at += 6;
         row += 1;
     }
+    after
 }
 
-fn line(state: &[u64], rows: &[u64], written: usize, number: u64, show: bool) {
-    say::number(number);
-    say::text(b" ");
-    clock(state);
-    say::text(b" ");
-    messages(state);
-    say::text(b"\n");
-    if show {
-        rows_of(rows, written);
+// The line of a step: its number, the clock, how many messages are active.
+fn line(out: &mut [u8], c: Course, settings: Settings, clock: f64, active: u64) -> Course {
+    let mut after = out::number(out, c, c.number);
+    after = out::text(out, after, b" ");
+    after = out::bits(out, after, times::bits_of(clock));
+    after = out::text(out, after, b" ");
+    if settings.decimal {
+        after = out::decimal(out, after, clock);
+        after = out::text(out, after, b" ");
     }
+    after = out::number(out, after, active);
+    out::text(out, after, b"\n")
 }
 
-// One step and its line.
-fn step(state: &mut [u64], services: &[f64], number: u64, show: bool) -> End {
-    let mut rows = [0u64; 1536];
-    let report = simulation::step(state, services, &mut rows);
+// What a run of one step leaves: its line and rows, or the refusal.
+fn after(
+    state: &[u64],
+    rows: &[u64],
+    out: &mut [u8],
+    c: Course,
+    settings: Settings,
+    report: Report,
+) -> Course {
     let end = report.end;
-    match end {
-        End::Refused(refusal) => return End::Refused(refusal),
-        End::Done => {}
-        End::Reached => {}
-        End::Spent => {}
+    if let End::Refused(refusal) = end {
+        return course::refused(c, refusal);
     }
-    line(state, &rows, report.written, number, show);
-    end
+    let count = active(state);
+    let mut next = line(out, c, settings, clock(state), count);
+    if settings.rows {
+        next = rows_of(out, next, rows, report.written);
+    }
+    course::stepped(next, is_reached(end))
 }
 
-// One step of step_until and its line: Spent where the time is not reached yet.
-fn step_towards(state: &mut [u64], services: &[f64], until: f64, number: u64, show: bool) -> End {
-    let mut rows = [0u64; 1536];
-    let report = simulation::step_until(state, services, until, 1, &mut rows);
-    let end = report.end;
-    match end {
-        End::Refused(refusal) => return End::Refused(refusal),
-        End::Done => {}
-        End::Reached => {}
-        End::Spent => {}
-    }
-    line(state, &rows, report.written, number, show);
-    end
+fn step(
+    state: &mut [u64],
+    services: &[f64],
+    rows: &mut [u64],
+    out: &mut [u8],
+    c: Course,
+    settings: Settings,
+) -> Course {
+    let report = simulation::step(state, services, rows);
+    after(state, rows, out, c, settings, report)
 }
 
-// A run that is refused: no more of the file is run.
-fn refused(end: End) -> Then {
-    match end {
-        End::Refused(refusal) => say::refused(refusal),
-        End::Done => {}
-        End::Reached => {}
-        End::Spent => {}
-    }
-    Then::Stops
-}
-
-fn is_refused(end: End) -> bool {
-    match end {
-        End::Refused(_) => true,
-        End::Done => false,
-        End::Reached => false,
-        End::Spent => false,
-    }
+// One step of step_until.
+fn step_towards(
+    state: &mut [u64],
+    services: &[f64],
+    until: f64,
+    rows: &mut [u64],
+    out: &mut [u8],
+    c: Course,
+    settings: Settings,
+) -> Course {
+    let report = simulation::step_until(state, services, until, 1, rows);
+    after(state, rows, out, c, settings, report)
 }
 
 fn is_reached(end: End) -> bool {
@@ -120,13 +133,12 @@ fn is_reached(end: End) -> bool {
 }
 
 // Refusal 12: nothing is left to do.
-fn is_idle(end: End) -> bool {
-    match end {
-        End::Refused(refusal) => rules::number(refusal) == 12,
-        End::Done => false,
-        End::Reached => false,
-        End::Spent => false,
+fn is_idle(c: Course) -> bool {
+    if c.status != course::REFUSED {
+        return false;
     }
+    let refusal = c.refusal;
+    rules::number(refusal) == rules::number(Refusal::Idle)
 }
 
 // step_n: so many steps.
@@ -134,21 +146,21 @@ pub(crate) fn count(
     state: &mut [u64],
     services: &[f64],
     most: u64,
-    first: u64,
-    show: bool,
-) -> Then {
-    let mut number = first;
+    rows: &mut [u64],
+    out: &mut [u8],
+    c: Course,
+    settings: Settings,
+) -> Course {
+    let mut course = c;
     let mut left = most;
     while 0 < left {
-        let end = step(state, services, number, show);
-        if is_refused(end) {
-            return refused(end);
+        course = step(state, services, rows, out, course, settings);
+        if course.status != course::RAN {
+            return course;
         }
-        number = next(number);
         left -= 1;
     }
-    say::text(b"done\n");
-    Then::Goes(number)
+    out::text(out, course, b"done\n")
 }
 
 // step_until. A limit that is no time is refused before any step, also where the allowance is 0.
@@ -157,13 +169,15 @@ pub(crate) fn until(
     services: &[f64],
     time: f64,
     allowance: u64,
-    first: u64,
-    show: bool,
-) -> Then {
+    rows: &mut [u64],
+    out: &mut [u8],
+    c: Course,
+    settings: Settings,
+) -> Course {
     if !times::is_time(time) {
-        return refused(End::Refused(Refusal::BadTime));
+        return course::refused(c, Refusal::BadTime);
     }
-    towards(state, services, time, allowance, first, show)
+    towards(state, services, time, allowance, rows, out, c, settings)
 }
 
 // Until the clock is no longer below a time, in at most so many steps.
@@ -172,25 +186,24 @@ fn towards(
     services: &[f64],
     time: f64,
     allowance: u64,
-    first: u64,
-    show: bool,
-) -> Then {
-    let mut number = first;
+    rows: &mut [u64],
+    out: &mut [u8],
+    c: Course,
+    settings: Settings,
+) -> Course {
+    let mut course = c;
     let mut left = allowance;
     while 0 < left {
-        let end = step_towards(state, services, time, number, show);
-        if is_refused(end) {
-            return refused(end);
+        course = step_towards(state, services, time, rows, out, course, settings);
+        if course.status != course::RAN {
+            return course;
         }
-        number = next(number);
-        if is_reached(end) {
-            say::text(b"reached\n");
-            return Then::Goes(number);
+        if course.reached {
+            return out::text(out, course, b"reached\n");
         }
         left -= 1;
     }
-    say::text(b"spent\n");
-    Then::Goes(number)
+    out::text(out, course, b"spent\n")
 }
 
 // Until there is nothing left to do, in at most so many steps.
@@ -198,23 +211,22 @@ pub(crate) fn until_idle(
     state: &mut [u64],
     services: &[f64],
     allowance: u64,
-    first: u64,
-    show: bool,
-) -> Then {
-    let mut number = first;
+    rows: &mut [u64],
+    out: &mut [u8],
+    c: Course,
+    settings: Settings,
+) -> Course {
+    let mut course = c;
     let mut left = allowance;
     while 0 < left {
-        let end = step(state, services, number, show);
-        if is_idle(end) {
-            say::text(b"idle\n");
-            return Then::Goes(number);
+        course = step(state, services, rows, out, course, settings);
+        if is_idle(course) {
+            return out::text(out, course::idle(course), b"idle\n");
         }
-        if is_refused(end) {
-            return refused(end);
+        if course.status != course::RAN {
+            return course;
         }
-        number = next(number);
         left -= 1;
     }
-    say::text(b"spent\n");
-    Then::Goes(number)
+    out::text(out, course, b"spent\n")
 }
