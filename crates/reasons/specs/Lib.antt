@@ -1,0 +1,3 @@
+-- What the contract of `reasons` cites, and what a reason promises.
+pub mod Checks
+pub mod Reasons
