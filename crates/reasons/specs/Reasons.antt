@@ -24,9 +24,11 @@ use Rattle.reasons.specs.declared.Reason.the-variants.{NoReason, ManyMod
 use Rattle.reasons.specs.Checks.{Check, _or_, firstBroken, widths}
 
 -- ---- a size that is over
+abbrev pub sizeChecks : List ℕ → List ℕ → List Check
+sizeChecks models connectors = leb (countOf modelWidth models) mostRows or ManyModels ∷ leb (countOf connectorWidth connectors) mostConnectors or ManyConnectors ∷ []
+
 unfoldable pub sizeReason : List ℕ → List ℕ → Reason
-sizeReason models connectors =
-    firstBroken (leb (countOf modelWidth models) mostRows or ManyModels ∷ leb (countOf connectorWidth connectors) mostConnectors or ManyConnectors ∷ []) ManyCouplings
+sizeReason models connectors = firstBroken (sizeChecks models connectors) ManyCouplings
 
 -- ---- a model row against the rows before it
 -- the row before the row k that has this id
@@ -73,14 +75,17 @@ batcherChecks size bits = leb 1 size or BatchOfNone ∷ leb size largestBatch or
 unfoldable pub batcherReason : List ℕ → ℕ → ℕ → ℕ → Reason
 batcherReason models k size bits = firstBroken (batcherChecks size bits) (joinReason models k)
 
--- ports 4 to 6: start, stop, ask
-abbrev pub stopwatchChecks : List ℕ → List Check
-stopwatchChecks row =
-    leb (settingIn 4 0 row) 1 or UnknownMetric ∷ not (eqb (cell row 4) (cell row 5)) or StartIsStop ∷ not (eqb (cell row 4) (cell row 6)) or StartIsAsk
+abbrev pub metricChecks : List ℕ → List Check
+metricChecks row = leb (settingIn 4 0 row) 1 or UnknownMetric ∷ []
+
+-- words 4 to 6: start, stop, ask
+abbrev pub differChecks : List ℕ → List Check
+differChecks row =
+    not (eqb (cell row 4) (cell row 5)) or StartIsStop ∷ not (eqb (cell row 4) (cell row 6)) or StartIsAsk
     ∷ not (eqb (cell row 5) (cell row 6)) or StopIsAsk ∷ []
 
 unfoldable pub stopwatchReason : List ℕ → ℕ → List ℕ → Reason
-stopwatchReason models k row = firstBroken (stopwatchChecks row) (joinReason models k)
+stopwatchReason models k row = firstBroken (metricChecks row) (firstBroken (differChecks row) (joinReason models k))
 
 unfoldable pub kindReason : List ℕ → ℕ → List ℕ → Reason
 kindReason models k row =

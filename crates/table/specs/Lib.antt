@@ -9,3 +9,4 @@ pub mod Earlier
 pub mod Agrees
 pub mod Judged
 pub mod Passed
+pub mod Refused
