@@ -16,7 +16,7 @@ use Rattle.rules.specs.Sizes.{isWord, omittedCapacity}
 use Rattle.rules.specs.Base.{if_then_else_}
 use Rattle.rules.specs.Table as Table
 use Rattle.rules.specs.Intake.{parentFits}
-use Rattle.rules.specs.Layout.{cell, isGiven, modelWidth, parentIn, capacityIn, metricIn, kindIn}
+use Rattle.rules.specs.Layout.{cell, isGiven, modelWidth, parentIn, metricIn, kindIn}
 use Rattle.rules.specs.Ends.{All, nil, _&_}
 use Rattle.rules.specs.Decides.{passes, coupled-id-decides}
 use Rattle.words.specs.declared.Found.{Found}
