@@ -1,10 +1,10 @@
 -- The bounds of a cell, tests on ports, and lists of tests, said in the code's terms. Assumes nothing.
 use Prim.Native.Nat.{ℕ, zero, suc, _+_, _-_, _*_, _/_, _≤_, _<_, _^_}
 use mathlib.Core.Path.{_≡_, refl, sym, ap, _∙_}
-use mathlib.Core.Bool.{Bool, true, false, not, _&&_, false≢true}
+use mathlib.Core.Bool.{Bool, true, false, not, false≢true}
 use mathlib.Core.List.{List, [], _∷_}
 use mathlib.Core.Option.{Option, none, some}
-use native.Mathlib.Nat.{sub-zero, suc-mul, div-mul-le-self, mul-le-mul-right, div-lt-iff-lt-mul}
+use native.Mathlib.Nat.{suc-mul, div-mul-le-self, mul-le-mul-right, div-lt-iff-lt-mul}
 use native.Mathlib.Numerals.{add-one}
 use native.Mathlib.Omega.{arith}
 use borrow.Author.Tests.{lt-ltb, le-ltb, ne-eqb}
@@ -21,22 +21,17 @@ use Rattle.rules.specs.declared.Metric.the-variants.{Minimum, Maximum}
 use Rattle.times.specs.Time.{isTime}
 use Rattle.times.specs.Answers.{timeOfBits, time-says}
 use Rattle.times.specs.declared.TimeOf.the-variants.{Time}
-use Rattle.rules.specs.Base.{if_then_else_, hold, some-of, from}
+use Rattle.rules.specs.Base.{if_then_else_, hold, some-of}
 use Rattle.rules.specs.Table as Table
 use Rattle.rules.specs.Layout.{cell, isGiven, capacityIn, metricIn, kindIn}
-use Rattle.words.specs.declared.Found.{Found}
-use Rattle.words.specs.declared.Cell.{Cell}
-use Rattle.words.specs.declared.Key.{Key}
-use Rattle.words.specs.Search.{inRow, holdsIn, matches, nextRow}
-use Rattle.words.specs.SearchLaws.{isFound, first-some, next-row-first}
 use Rattle.table.specs.declared.Part.{Part}
 use Rattle.table.specs.declared.Part.the-variants.{Models, Connectors, Couplings}
 use Rattle.table.specs.declared.Kind.the-variants.{Broken}
 use Rattle.table.specs.declared.Parent.{Parent}
 use Rattle.table.specs.Readers.{rowOf, named, kindOf, parentOf}
-use Rattle.table.specs.Rows.{countOf, row-cell, row-whole, row-begins, rows-fit}
+use Rattle.table.specs.Rows.{countOf, row-whole, row-begins, rows-fit}
 use Rattle.table.specs.Agrees.{one, fits-length}
-use Rattle.table.specs.Judging.{stopwatchOf, settingIn, isKind, optionOf, rowIn, earlierIn, cellsFit, hasRow, rowFits, widthOf}
+use Rattle.table.specs.Judging.{stopwatchOf, settingIn, isKind, optionOf, rowIn, earlierIn, cellsFit, rowFits, widthOf}
 
 -- ---- a row's place
 pub start-within : (n width row : ℕ) → row ≤ n / width → row * width ≤ n
@@ -147,34 +142,6 @@ module _ (test : Table.Row → Bool) (models : List ℕ) where
   pub before-skip : (k : ℕ) → 0 < k → test (rowIn models (k - 1)) ≡ false → some-of test (earlierIn models k) ≡ some-of test (earlierIn models (k - 1))
   before-skip zero h e = absurd (omega arith)
   before-skip (suc k) h e = let p : suc k - 1 ≡ k = omega arith in rw (rw p at e, p)
-
--- ---- a key of an id and one more cell
-thrice : (a b : Bool) → (a && b && b && b) ≡ (a && b)
-thrice true true = refl
-thrice true false = refl
-thrice false true = refl
-thrice false false = refl
-
-abbrev pub idAnd : ℕ → ℕ → ℕ → Key
-idAnd id at value =
-    let cell : Cell = record { at = at; value = value } in
-    record { first = record { at = 0; value = id }; second = cell; third = cell; fourth = cell }
-
-module _ (models : List ℕ) (rows id at value : ℕ) (few : rows ≤ length models / 10) (inside : at < 10) where
-  in-row : inRow (idAnd id at value) 10 ≡ true
-  in-row = rw (lt-ltb at 10 inside)
-
-  same-test : (k : ℕ) → (eqb (cell (rowOf 10 models k) 0) id && eqb (cell (rowOf 10 models k) at) value) ≡ matches (idAnd id at value) 10 models k
-  same-test k =
-      let first = row-cell 10 models k 0 (omega arith) in
-      let other = row-cell 10 models k at inside in
-      rw (first, other) (sym (thrice (holdsIn 10 models k (idAnd id at value .first)) (holdsIn 10 models k (idAnd id at value .second))))
-
-  pub has-row : {f : Found} → f ≡ nextRow (idAnd id at value) 10 0 rows models → hasRow models rows id at value ≡ isFound f
-  unfolding hasRow
-  has-row e =
-      (λ i. some-of (λ k. same-test k i) (from 0 rows)) ∙ sym (first-some (matches (idAnd id at value) 10 models) 0 rows)
-      ∙ ap isFound (rw sub-zero at (sym (next-row-first (idAnd id at value) 10 0 rows models in-row few)) ∙ sym e)
 
 -- ---- a row that keeps its own rules is whole
 pub fits-whole : (models : List ℕ) (row : ℕ) → rowFits (rowOf 10 models row) ≡ true → row ≤ length models / 10

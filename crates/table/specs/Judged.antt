@@ -96,7 +96,7 @@ module _ (models : List ℕ) (fine : firstBadIn Models models models ≡ Nothing
   pub rows-are-read : whole (map modelRow (rowsOf modelWidth models)) ≡ map (rowIn models) (from 0 (countOf modelWidth models))
   rows-are-read = lines-whole modelRow (rowIn models) modelWidth models row-read
 
-  count-is : length models / modelWidth ≡ countOf modelWidth models
+  pub count-is : length models / modelWidth ≡ countOf modelWidth models
   count-is = let e = rows-length in omega arith
 
 -- ---- couplings, against the rows in either order
@@ -105,7 +105,7 @@ some-map test h [] = refl
 some-map test h (k ∷ ks) = rw (some-map test h ks)
 
 module _ (models couplings : List ℕ) where
-  some-order : (test : Table.Row → Bool) (n : ℕ) → some-of test (map (rowIn models) (from 0 n)) ≡ some-of test (earlierIn models n)
+  pub some-order : (test : Table.Row → Bool) (n : ℕ) → some-of test (map (rowIn models) (from 0 n)) ≡ some-of test (earlierIn models n)
   some-order test n = some-map test (rowIn models) (from 0 n) ∙ sym (some-earlier test models n)
 
   coupling-order : (n : ℕ) (row : List ℕ) → couplingKeeps (map (rowIn models) (from 0 n)) row ≡ couplingKeeps (earlierIn models n) row

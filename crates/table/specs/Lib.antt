@@ -4,7 +4,9 @@ pub mod Verdicts
 pub mod Rows
 pub mod Judging
 pub mod Rising
+pub mod Searched
 pub mod Earlier
 pub mod Agrees
 pub mod Judged
 pub mod Passed
+pub mod Refused

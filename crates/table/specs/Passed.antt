@@ -45,7 +45,7 @@ abbrev pub couplingAt : List ℕ → ℕ → Coupling
 couplingAt couplings k = couplingOf (rowOf couplingWidth couplings k)
 
 -- ---- lists
-place-none : (f : Found) → placeOf f ≡ none → f ≡ Nothing
+pub place-none : (f : Found) → placeOf f ≡ none → f ≡ Nothing
 place-none (At k) e = absurd (no-some (sym e))
 place-none Nothing e = refl
 

@@ -242,6 +242,25 @@ fn parent_in(cells: &[u64]) -> Parent
     }
 }
 
+// The words of a row of each part: fewer where it is cut short, none past the last.
+pub fn model_words(models: &[u64], row: usize) -> &[u64]
+    ensures { λ r. ⌜ now r ≡ rowOf Layout.modelWidth (now (models .entry)) row ⌝ }
+{
+    row_of(models, 10, row)
+}
+
+pub fn connector_words(connectors: &[u64], row: usize) -> &[u64]
+    ensures { λ r. ⌜ now r ≡ rowOf Layout.connectorWidth (now (connectors .entry)) row ⌝ }
+{
+    row_of(connectors, 4, row)
+}
+
+pub fn coupling_words(couplings: &[u64], row: usize) -> &[u64]
+    ensures { λ r. ⌜ now r ≡ rowOf Layout.couplingWidth (now (couplings .entry)) row ⌝ }
+{
+    row_of(couplings, 6, row)
+}
+
 // The id in a model row; 0 past the last.
 pub fn id_at(models: &[u64], row: usize) -> u64
     ensures { λ r. ⌜ r ≡ idIn (now (models .entry)) row ⌝ }
@@ -417,7 +436,7 @@ fn is_child(cells: &[u64], owner: u64, target: u64) -> bool
 }
 
 // Whether some row has this id and this parent.
-fn is_component(models: &[u64], owner: u64, target: u64) -> bool
+pub fn is_component(models: &[u64], owner: u64, target: u64) -> bool
     ensures { λ r. ⌜ r ≡ Intake.isComponentOf (Judging.allIn (now (models .entry))) owner target ⌝ }
 {
     let mut row = models.len() / 10;

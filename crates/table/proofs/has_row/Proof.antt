@@ -2,7 +2,7 @@
 use mathlib.Core.Path.{sym, ap, _∙_}
 use borrow.Author.Needs.{needs}
 use Rattle.words.specs.SearchLaws.{isFound}
-use Rattle.table.proofs.Laws.{has-row}
+use Rattle.table.specs.Searched.{has-row}
 use Rattle.table.proofs.has_row.Statement.{statement}
 use Rattle.table.proofs.has_row.Tie as tie
 
