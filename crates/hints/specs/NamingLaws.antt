@@ -11,17 +11,18 @@ use lib.ListN.{length}
 use lib.Dec.{eqb}
 use Rattle.rules.specs.Base.{if_then_else_, those, chosen, some-of, from}
 use Rattle.rules.specs.Table.{isParent, isParentless}
-use Rattle.rules.specs.Layout.{cell, modelWidth, couplingWidth, parentIn}
+use Rattle.rules.specs.Layout.{cell, modelWidth, couplingWidth, parentIn, kindIn}
 use Rattle.words.specs.declared.Found.{Found}
 use Rattle.words.specs.declared.Found.the-variants.{At, Nothing}
 use Rattle.words.specs.declared.Cell.{Cell}
 use Rattle.words.specs.declared.Key.{Key}
 use Rattle.words.specs.Search.{firstFrom, matches, nextRow}
 use Rattle.words.specs.SearchLaws.{isFound, first-at, first-nothing, first-some, next-row-first}
+use Rattle.table.specs.declared.Kind.{Kind}
 use Rattle.table.specs.declared.Kind.the-variants.{Coupled}
 use Rattle.table.specs.declared.Parent.{Parent}
 use Rattle.table.specs.declared.Parent.the-variants.{Of, Nobody}
-use Rattle.table.specs.Readers.{rowOf, idIn, parentOf}
+use Rattle.table.specs.Readers.{rowOf, idIn, parentOf, kindOf}
 use Rattle.table.specs.Rows.{row-cell}
 use Rattle.table.specs.Judging.{optionOf, inputIn, outputIn, innerIn}
 use Rattle.table.specs.Passed.{couplingAt, couplingOf}
@@ -70,18 +71,20 @@ module _ (wanted : Parent) (models couplings : List ℕ) (id port : ℕ) (side :
   named-are : those (λ k. eqb (idIn models k) id) (rowsWhere (isParentOf wanted) models) ≡ those (isNamed wanted models id) (from 0 rows)
   named-are = those-both (λ k. eqb (idIn models k) id) (λ k. isParentOf wanted (parentIn (rowOf modelWidth models k))) (from 0 rows)
 
-  pub end-nobody : firstFrom (isNamed wanted models id) 0 rows ≡ Nothing → endIn (isParentOf wanted) models couplings id port side ≡ known.NoModel
+  pub end-nobody : firstFrom (isNamed wanted models id) 0 rows ≡ Nothing → known.NoModel ≡ endIn (isParentOf wanted) models couplings id port side
   unfolding endIn
-  end-nobody e = ap (knownBy (portsIn models couplings side) port) (named-are ∙ first-nothing (isNamed wanted models id) 0 rows e)
+  end-nobody e = sym (ap (knownBy (portsIn models couplings side) port) (named-are ∙ first-nothing (isNamed wanted models id) 0 rows e))
 
-  module _ (k : ℕ) (e : firstFrom (isNamed wanted models id) 0 rows ≡ At k) where
-    pub end-at : endIn (isParentOf wanted) models couplings id port side ≡ (if some-of (λ p. eqb p port) (portsIn models couplings side k) then known.Known else known.NoPort)
-    unfolding endIn
-    end-at = ap (knownBy (portsIn models couplings side) port) (named-are ∙ first-at (isNamed wanted models id) 0 rows k e .3)
-
-    -- it has the id
-    pub end-id : idIn models k ≡ id
-    end-id = eqb-true (idIn models k) id (and-first _ _ (first-at (isNamed wanted models id) 0 rows k e .2))
+  -- the row that is found has the id, so its ports are those of a model with it
+  pub end-at : (k : ℕ) → firstFrom (isNamed wanted models id) 0 rows ≡ At k → {kind : Kind} → kind ≡ kindOf (kindIn (rowOf modelWidth models k)) → {b : Bool} → b ≡ some-of (λ p. eqb p port) (portsOf side (couplingsIn couplings) id kind)
+      → (if b then known.Known else known.NoPort) ≡ endIn (isParentOf wanted) models couplings id port side
+  unfolding endIn
+  end-at k e {kind} g {b} h =
+      let first = first-at (isNamed wanted models id) 0 rows k e in
+      let same : idIn models k ≡ id = eqb-true (idIn models k) id (and-first _ _ (first .2)) in
+      let ports : portsOf side (couplingsIn couplings) id kind ≡ portsIn models couplings side k = λ i. portsOf side (couplingsIn couplings) (sym same i) (g i) in
+      ap (λ (b : Bool). if b then known.Known else known.NoPort) (h ∙ ap (some-of (λ p. eqb p port)) ports)
+      ∙ sym (ap (knownBy (portsIn models couplings side) port) (named-are ∙ first .3))
 
 -- ---- the ports of a Coupled
 -- an input coupling by its source port, an output coupling by its target port
