@@ -1,0 +1,4 @@
+-- What the contracts of `hints` cite, and the laws of it.
+pub mod Naming
+pub mod NamingCases
+pub mod NamingLaws
