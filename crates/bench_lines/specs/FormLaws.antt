@@ -5,16 +5,18 @@ use mathlib.Core.Bool.{Bool, true, false}
 use mathlib.Core.List.{List, [], _∷_, _++_}
 use native.Mathlib.Omega.{arith}
 use borrow.Author.Tests.{ltb-true, ltb-false, le-leb, lt-leb}
-use lib.Dec.{ltb}
+use lib.Dec.{ltb, eqb}
 use lib.ListN.{length, replicate}
 use Rattle.rules.specs.Base.{if_then_else_}
 use Rattle.bench_words.specs.Numbers.{digitOf}
+use Rattle.bench_lines.specs.declared.Item.{Item}
+use Rattle.bench_lines.specs.declared.Item.the-variants.{Processor, Batcher, Stopwatch, Coupled, Connector, Input, Output, Internal, Service, InjectInput, StepN, StepUntil, StepUntilIdle, Rows}
 use Rattle.bench_lines.specs.declared.Word.{Word}
 use Rattle.bench_lines.specs.declared.Word.the-variants.{Nothing, Parent, In, Out, QueueCapacity, MaxBatchSize, MaxBatchTime, Start, Stop, Ask, Metric, Colon, To, Time, Content, Allowance}
 use Rattle.bench_lines.specs.declared.Value.{Value}
 use Rattle.bench_lines.specs.declared.Value.the-variants.{TheEnd, AnId, ASmall, AWhole, ATime, AMetric}
 use Rattle.bench_lines.specs.declared.Field.{Field}
-use Rattle.bench_lines.specs.Forms.{end, wordCode, valueCode, hex, codes, coded, wordCoded, valueCoded, fieldOf, fieldsIn}
+use Rattle.bench_lines.specs.Forms.{end, wordCode, valueCode, hex, codes, coded, wordCoded, valueCoded, fieldOf, fieldsIn, formOf}
 
 hex-by : (n : ℕ) → n < 16 → (t : Bool) → ltb n 10 ≡ t → digitOf (if t then 48 + n else 87 + n) ≡ n
 unfolding digitOf
@@ -83,3 +85,27 @@ pub decoded : {fs : List Field} → Digits fs → fieldsIn (coded fs) ≡ fs ++ 
 decoded {fs} digits =
     let left : 32 - length (codes fs) ≡ (8 - length fs) * 4 = omega (arith, codes-length fs) in
     codes-back digits _ ∙ ap (λ rest. fs ++ rest) ((rw left) ∙ zeros-back (8 - length fs))
+
+-- ---- two optional fields in a row
+abbrev inARow : List Field → Bool
+inARow [] = false
+inARow (f ∷ []) = false
+inARow (f ∷ g ∷ fs) = if eqb (f .flag) 0 then inARow (g ∷ fs) else if eqb (g .flag) 0 then inARow (g ∷ fs) else true
+
+-- no form has them: the optional word that is told with what was expected is all that may stand there
+pub one-at-a-time : (item : Item) → inARow (fieldsIn (formOf item)) ≡ false
+unfolding digitOf
+one-at-a-time Processor = refl
+one-at-a-time Batcher = refl
+one-at-a-time Stopwatch = refl
+one-at-a-time Coupled = refl
+one-at-a-time Connector = refl
+one-at-a-time Input = refl
+one-at-a-time Output = refl
+one-at-a-time Internal = refl
+one-at-a-time Service = refl
+one-at-a-time InjectInput = refl
+one-at-a-time StepN = refl
+one-at-a-time StepUntil = refl
+one-at-a-time StepUntilIdle = refl
+one-at-a-time Rows = refl

@@ -7,6 +7,7 @@ mod run;
 mod say;
 mod steps;
 mod warn;
+mod why;
 
 fn main() {
     let mut path = io::buffer();

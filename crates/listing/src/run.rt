@@ -7,6 +7,7 @@ use crate::out;
 use crate::say;
 use crate::steps;
 use crate::warn;
+use crate::why;
 use bench_file::Counts;
 use bench_file::Page;
 use bench_file::Reading;
@@ -107,9 +108,13 @@ fn refused_table(
 ) -> u64 {
     let mut buffer = io::buffer();
     let c = refused(&mut buffer, course::refused(course::start(), refusal));
-    let status = out::flush(&buffer, c).status;
-    say::verdict(path, text, table::intake(models, connectors, couplings));
-    status
+    let after = out::flush(&buffer, c);
+    why::place(path, text, table::intake(models, connectors, couplings));
+    say::refusal_of(c);
+    say::text(b": ");
+    why::rule(text, reasons::reason_of(models, connectors, couplings));
+    say::text(b"\n");
+    after.status
 }
 
 // The service times, from their bits, as many as there is room for.

@@ -2,12 +2,10 @@
 use crate::course::Course;
 use crate::out;
 use bench_file::Expected;
-use bench_file::Page;
 use bench_file::Value;
 use bench_file::Wanted;
 use bench_file::Word;
 use rules::Refusal;
-use table::Verdict;
 
 // How many bytes of a word are shown.
 const SHOWN: usize = 40;
@@ -201,7 +199,7 @@ pub(crate) fn name(refusal: Refusal) -> [u8; 32] {
 }
 
 // `refused N NAME`
-fn refusal_of(c: Course) {
+pub(crate) fn refusal_of(c: Course) {
     let refusal = c.refusal;
     text(b"refused ");
     number(rules::number(refusal) as u64);
@@ -234,24 +232,4 @@ pub(crate) fn refused(c: Course, clock: f64) {
     text(b" (");
     decimal(clock);
     text(b")\n");
-}
-
-// A row of a table that was refused.
-fn bad(path: &[u8], file: &[u8], page: Page, row: usize) {
-    place(path, bench_file::line_of(file, page, row));
-    text(b"breaks a rule of the table\n");
-}
-
-// Where a table is bad.
-pub(crate) fn verdict(path: &[u8], file: &[u8], verdict: Verdict) {
-    match verdict {
-        Verdict::TooLarge => {
-            text(path);
-            text(b": at most 64 models, 256 connectors, 256 couplings\n")
-        }
-        Verdict::BadRow(row) => bad(path, file, Page::Models, row),
-        Verdict::BadConnector(row) => bad(path, file, Page::Connectors, row),
-        Verdict::BadCoupling(row) => bad(path, file, Page::Couplings, row),
-        Verdict::Passed => {}
-    }
 }
