@@ -3,7 +3,6 @@ use Prim.Native.Nat.{ℕ, zero, suc, _≤_, _<_}
 use mathlib.Core.Path.{_≡_, refl, sym, ap, _∙_}
 use mathlib.Core.Bool.{Bool, true, false, not}
 use mathlib.Core.List.{List}
-use mathlib.Core.Option.{Option, none, some}
 use native.Mathlib.Omega.{arith}
 use borrow.Author.Tests.{lt-ltb, le-ltb}
 use lib.Ieee.{Float, binary64, ofBits}
@@ -17,12 +16,10 @@ use Rattle.rules.specs.Intake as Intake
 use Rattle.rules.specs.Layout.{cell, connectorWidth, couplingWidth, lent}
 use Rattle.words.specs.declared.Found.{Found}
 use Rattle.words.specs.declared.Found.the-variants.{At, Nothing}
-use Rattle.table.specs.declared.Parent.{Parent}
 use Rattle.table.specs.declared.Verdict.{Verdict}
 use Rattle.table.specs.declared.Verdict.the-variants.{TooLarge, BadRow, BadConnector, BadCoupling, Passed}
-use Rattle.table.specs.Readers.{rowOf, parentOf}
+use Rattle.table.specs.Readers.{rowOf}
 use Rattle.table.specs.Verdicts.{verdictOf}
-use Rattle.table.specs.Judging.{optionOf}
 use Rattle.reasons.specs.declared.Reason.{Reason}
 use Rattle.reasons.specs.declared.Reason.the-variants.{NoReason}
 use Rattle.reasons.specs.Checks.{firstBroken, widths, firstWide}
@@ -53,11 +50,7 @@ widths-are wide row rest c (suc n) = go (isPort (cell row c)) (widths-are wide r
 pub widths-by : (wide : ℕ → Reason) (row : List ℕ) (rest : Reason) (c n : ℕ) {f g : Found} → f ≡ firstWide row c n → f ≡ g → wideOr wide rest g ≡ firstBroken (widths wide row c n) rest
 widths-by wide row rest c n e h = sym (widths-are wide row rest c n ∙ ap (wideOr wide rest) (sym e ∙ h))
 
--- ---- a parent and a time that were read
-pub parent-back : {p : Parent} (o : Option ℕ) → p ≡ parentOf o → o ≡ optionOf p
-parent-back none e = sym (ap optionOf e)
-parent-back (some id) e = sym (ap optionOf e)
-
+-- ---- a time that was read
 pub time-read : (bits : ℕ) (x : Float) → timeOfBits bits ≡ Time x → isTime (ofBits binary64 bits) ≡ true
 time-read bits x e = let z = time-says bits x e in ap isTime (sym (z .1)) ∙ is-true (isTime x) (z .0)
 

@@ -42,7 +42,7 @@ ofCoupling = reasonOf (coupled 1 ++ within 1 2 1 ++ processor 3) []
 abbrev nest : List ℕ
 nest = coupled 1 ++ within 1 2 4 ++ within 2 3 4 ++ within 3 4 4
 
-pub record Told : Type 0 where
+pub record Named : Type 0 where
   pub passes : reasonOf [] [] [] ≡ NoReason
   pub many-models : ofModels (replicate 641 0) ≡ ManyModels
   pub many-connectors : reasonOf [] (replicate 1025 0) [] ≡ ManyConnectors
@@ -102,7 +102,7 @@ pub record Told : Type 0 where
   pub models-first : reasonOf (batcher 0 0) (1 ∷ []) (1 ∷ []) ≡ BatchOfNone
   pub connectors-next : reasonOf (processor 1) (1 ∷ []) (1 ∷ []) ≡ ConnectorCutShort
 
-pub cases : Told
+pub cases : Named
 unfolding intake lent nextRow depthIn isTime fits le ofBits sizeReason depthReason placeReason joinReason batcherReason stopwatchReason kindReason portReason modelReason connectorReason ownerReason endReason couplingReason reasonOf
 cases = record {
   passes = refl;

@@ -7,3 +7,4 @@ pub mod CheckLaws
 pub mod Model
 pub mod Lines
 pub mod Told
+pub mod Passes

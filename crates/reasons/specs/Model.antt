@@ -5,14 +5,13 @@ use mathlib.Core.Bool.{Bool, true, false, not, false≢true}
 use mathlib.Core.List.{List}
 use mathlib.Core.Option.{Option, none, some}
 use native.Mathlib.Omega.{arith}
-use borrow.Author.Tests.{leb-true, leb-false, ltb-false, eqb-true, eqb-false, ne-eqb, lt-ltb, not-false}
+use borrow.Author.Tests.{leb-true, leb-false, ltb-false, eqb-true, eqb-false, ne-eqb, not-false}
 use lib.ListN.{length}
 use lib.Dec.{T, leb, eqb}
 use lib.Ieee.Bits.{is-true}
 use lib.Ieee.Fits.{and-l}
 use Rattle.rules.specs.declared.Metric.{Metric}
 use Rattle.rules.specs.declared.Metric.the-variants.{Minimum, Maximum}
-use Rattle.rules.specs.Sizes.{isWord, omittedCapacity}
 use Rattle.rules.specs.Base.{if_then_else_}
 use Rattle.rules.specs.Table as Table
 use Rattle.rules.specs.Intake.{parentFits}
@@ -25,6 +24,7 @@ use Rattle.words.specs.Search.{matches}
 use Rattle.words.specs.SearchLaws.{isFound, first-at}
 use Rattle.table.specs.Readers.{rowOf, idIn, kindOf, depthIn}
 use Rattle.table.specs.Judging.{batcherOf, stopwatchOf, settingIn, isKind, earlierIn, cellsFit, rowFits, parentJoins, rowKeeps}
+use Rattle.table.specs.Readings.{processor-fits}
 use Rattle.table.specs.Searched.{idAnd, searched, same-test, has-row}
 use Rattle.table.specs.Earlier.{coupled-id-is, depth-same, row-joins-is}
 use Rattle.reasons.specs.declared.Reason.{Reason}
@@ -34,33 +34,36 @@ use Rattle.reasons.specs.Reasons.{takenBy, placeIn, parentStands, depthK
 use Rattle.reasons.specs.Breaks.{ModelBreaks, cut-short, unknown-kind, unknown-field, wide-id, wide-port, batch-of-none, large-batch, no-batch-time, unknown-metric, start-is-stop, start-is-ask, stop-is-ask, id-taken, no-parent, too-deep}
 use Rattle.reasons.specs.CheckLaws.{Kept, named, wide-named}
 
+-- the metric that a word says, or Minimum where it is omitted
+abbrev metricBy : Bool → ℕ → Option Metric
+metricBy given w = if given then (if eqb w 0 then some Minimum else if eqb w 1 then some Maximum else none) else some Minimum
+
 equal : (m n : ℕ) → not (eqb m n) ≡ false → m ≡ n
 equal m n t = eqb-true m n (not-false (eqb m n) t)
 
 -- ---- what a row's words say of its kind
 module _ (row : List ℕ) where
-  pub batcher-in : cell row 1 ≡ 2 → kindIn row ≡ some (batcherOf (cell row 4) (cell row 7) (cell row 8) (cell row 9))
+  batcher-in : cell row 1 ≡ 2 → kindIn row ≡ some (batcherOf (cell row 4) (cell row 7) (cell row 8) (cell row 9))
   batcher-in e = rw e
 
-  pub stopwatch-in : (m : Metric) → cell row 1 ≡ 3 → metricIn row ≡ some m → kindIn row ≡ some (stopwatchOf (cell row 4) (cell row 5) (cell row 6) (cell row 7) m)
+  stopwatch-in : (m : Metric) → cell row 1 ≡ 3 → metricIn row ≡ some m → kindIn row ≡ some (stopwatchOf (cell row 4) (cell row 5) (cell row 6) (cell row 7) m)
   stopwatch-in m e h = rw (e, h)
 
-  pub coupled-in : cell row 1 ≡ 4 → kindIn row ≡ some Table.coupled
+  coupled-in : cell row 1 ≡ 4 → kindIn row ≡ some Table.coupled
   coupled-in e = rw e
 
   -- the metric's word, or 0 where it is omitted
-  pub metric-none : leb (settingIn 4 0 row) 1 ≡ false → metricIn row ≡ none
+  metric-none : leb (settingIn 4 0 row) 1 ≡ false → metricIn row ≡ none
   metric-none = go (isGiven 4 row) (cell row 8)
     where
-      go : (given : Bool) (w : ℕ) → leb (if given then w else 0) 1 ≡ false → (if given then (if eqb w 0 then some Minimum else if eqb w 1 then some Maximum else none) else some Minimum) ≡ none
+      go : (given : Bool) (w : ℕ) → leb (if given then w else 0) 1 ≡ false → metricBy given w ≡ none
       go true w h = let l = leb-false w 1 h in rw (ne-eqb w 0 (λ e. omega arith), ne-eqb w 1 (λ e. omega arith))
       go false w h = absurd (false≢true (sym h))
 
-  pub metric-some : {C : Type 0} → leb (settingIn 4 0 row) 1 ≡ true → ((m : Metric) → metricIn row ≡ some m → C) → C
+  metric-some : {C : Type 0} → leb (settingIn 4 0 row) 1 ≡ true → ((m : Metric) → metricIn row ≡ some m → C) → C
   metric-some {C} = go (isGiven 4 row) (cell row 8)
     where
-      go : (given : Bool) (w : ℕ) → leb (if given then w else 0) 1 ≡ true
-          → ((m : Metric) → (if given then (if eqb w 0 then some Minimum else if eqb w 1 then some Maximum else none) else some Minimum) ≡ some m → C) → C
+      go : (given : Bool) (w : ℕ) → leb (if given then w else 0) 1 ≡ true → ((m : Metric) → metricBy given w ≡ some m → C) → C
       go true zero h f = f Minimum refl
       go true (suc zero) h f = f Maximum refl
       go true (suc (suc w)) h f = let l = leb-true (suc (suc w)) 1 h in absurd (omega arith)
@@ -73,12 +76,9 @@ module _ (row : List ℕ) where
   abbrev KindFits : Type 0
   KindFits = isKind (kindOf (kindIn row)) ≡ true
 
-  processor-fits : cell row 8 < 2 ^ 64 → cell row 1 ≡ 1 → Ports → KindFits
-  processor-fits l e (p4 & p5 & p6 & p7 & nil) = rw (e, p4, p7, capacity (isGiven 2 row))
-    where
-      capacity : (given : Bool) → isWord (if given then cell row 8 else omittedCapacity) ≡ true
-      capacity true = lt-ltb (cell row 8) (2 ^ 64) l
-      capacity false = refl
+  ports-fit : Ports → cellsFit row 4 8 ≡ true
+  unfolding cellsFit
+  ports-fit (p4 & p5 & p6 & p7 & nil) = rw (p4, p5, p6, p7)
 
   batcher-fits : cell row 1 ≡ 2 → Ports → All Kept (batcherChecks (cell row 8) (cell row 9)) → KindFits
   batcher-fits e (p4 & p5 & p6 & p7 & nil) (a & b & t & nil) = rw (e, p4, p7, a, b, t)
@@ -181,7 +181,7 @@ module _ (models : List ℕ) (k : ℕ) (begins : k ≤ length models / modelWidt
             → P (if b then batcherReason models k (cell row 8) (cell row 9) else if d then stopwatchReason models k row else joinReason models k)
         go true e d f a g = batcher-told (eqb-true (cell row 1) 2 e)
         go false e true f a g = stopwatch-told (eqb-true (cell row 1) 3 f)
-        go false e false f true g = join-told (processor-fits row word (eqb-true (cell row 1) 1 g) ports)
+        go false e false f true g = join-told (processor-fits row (ports-fit row ports) word (eqb-true (cell row 1) 1 g))
         go false e false f false g = join-told (coupled-fits row (last shape))
           where
             last : All Kept (shapeChecks row) → cell row 1 ≡ 4

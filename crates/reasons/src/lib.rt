@@ -71,7 +71,7 @@ fn row_with(models: &[u64], rows: usize, id: u64, at: usize, value: u64) -> Foun
     words::next_row(models, 10, 0, rows, key)
 }
 
-// The parent of the row, if it has one, is none of the Coupleds before it; or a Coupled is too deep.
+// What a row breaks by its parent, which is a Coupled before it, or by its depth.
 fn place_reason(models: &[u64], row: usize) -> Reason
     ensures { λ r. ⌜ r ≡ Reasons.placeReason (now (models .entry)) row ⌝ }
 {
@@ -84,6 +84,7 @@ fn place_reason(models: &[u64], row: usize) -> Reason
     }
 }
 
+// A Coupled (word 1 is 4) may be too deep.
 fn depth_reason(models: &[u64], row: usize) -> Reason
     ensures { λ r. ⌜ r ≡ Reasons.depthReason (now (models .entry)) row ⌝ }
 {
@@ -107,6 +108,7 @@ fn join_reason(models: &[u64], row: usize) -> Reason
     }
 }
 
+// What a Batcher breaks by its size or time, or else against the rows before it.
 fn batcher_reason(models: &[u64], row: usize, size: u64, bits: u64) -> Reason
     ensures { λ r. ⌜ r ≡ Reasons.batcherReason (now (models .entry)) row size bits ⌝ }
 {
@@ -133,6 +135,7 @@ fn metric_in(cells: &[u64]) -> u64
     }
 }
 
+// What a Stopwatch breaks by its metric or ports, or else against the rows before it.
 fn stopwatch_reason(models: &[u64], row: usize, cells: &[u64]) -> Reason
     ensures { λ r. ⌜ r ≡ Reasons.stopwatchReason (now (models .entry)) row (now (cells .entry)) ⌝ }
 {
@@ -170,6 +173,7 @@ fn kind_reason(models: &[u64], row: usize, cells: &[u64]) -> Reason
     join_reason(models, row)
 }
 
+// What a row breaks by its id (word 0) or its ports (words 4 to 7), or else by its kind.
 fn port_reason(models: &[u64], row: usize, cells: &[u64]) -> Reason
     ensures { λ r. ⌜ r ≡ Reasons.portReason (now (models .entry)) row (now (cells .entry)) ⌝ }
 {
@@ -203,6 +207,7 @@ fn model_reason(models: &[u64], row: usize) -> Reason
     port_reason(models, row, cells)
 }
 
+// Why a connector is refused.
 fn connector_reason(cells: &[u64]) -> Reason
     ensures { λ r. ⌜ r ≡ Reasons.connectorReason (now (cells .entry)) ⌝ }
 {
@@ -231,6 +236,7 @@ fn owner_reason(models: &[u64], owner: u64, kind: u64, target: u64) -> Reason
     Reason::NoComponent
 }
 
+// What a coupling breaks by its ids and ports (words 0 and 2 to 5), or else against the models.
 fn end_reason(models: &[u64], cells: &[u64]) -> Reason
     ensures { λ r. ⌜ r ≡ Reasons.endReason (now (models .entry)) (now (cells .entry)) ⌝ }
 {

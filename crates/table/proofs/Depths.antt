@@ -12,7 +12,7 @@ use Rattle.table.specs.declared.Parent.the-variants.{Of, Nobody}
 use Rattle.table.specs.Readers.{rowOf, idIn, parentOf, before, depthIn}
 use Rattle.table.specs.Judging.{optionOf}
 use Rattle.table.specs.Earlier.{none-deep}
-use Rattle.table.proofs.Laws.{parent-back}
+use Rattle.table.specs.Readings.{parent-back}
 
 -- the depth of a row with this parent, after the first `k` rows
 abbrev pub depthFrom : List ℕ → ℕ → Parent → ℕ

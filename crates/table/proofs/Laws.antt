@@ -1,7 +1,7 @@
 -- The bounds of a cell, tests on ports, and lists of tests, said in the code's terms. Assumes nothing.
 use Prim.Native.Nat.{ℕ, zero, suc, _+_, _-_, _*_, _/_, _≤_, _<_, _^_}
 use mathlib.Core.Path.{_≡_, refl, sym, ap, _∙_}
-use mathlib.Core.Bool.{Bool, true, false, not, false≢true}
+use mathlib.Core.Bool.{Bool, true, false, not}
 use mathlib.Core.List.{List, [], _∷_}
 use mathlib.Core.Option.{Option, none, some}
 use native.Mathlib.Nat.{suc-mul, div-mul-le-self, mul-le-mul-right, div-lt-iff-lt-mul}
@@ -15,7 +15,7 @@ use lib.Ieee.{Float, binary64, ofBits}
 use lib.Ieee.Bits.{is-true}
 use mir.Syntax.{w64}
 use mir.Val.{Fits}
-use Rattle.rules.specs.Sizes.{isPort, isWord, omittedCapacity}
+use Rattle.rules.specs.Sizes.{isPort, isWord}
 use Rattle.rules.specs.declared.Metric.{Metric}
 use Rattle.rules.specs.declared.Metric.the-variants.{Minimum, Maximum}
 use Rattle.times.specs.Time.{isTime}
@@ -23,15 +23,14 @@ use Rattle.times.specs.Answers.{timeOfBits, time-says}
 use Rattle.times.specs.declared.TimeOf.the-variants.{Time}
 use Rattle.rules.specs.Base.{if_then_else_, hold, some-of}
 use Rattle.rules.specs.Table as Table
-use Rattle.rules.specs.Layout.{cell, isGiven, capacityIn, metricIn, kindIn}
+use Rattle.rules.specs.Layout.{cell, isGiven, metricIn}
 use Rattle.table.specs.declared.Part.{Part}
 use Rattle.table.specs.declared.Part.the-variants.{Models, Connectors, Couplings}
 use Rattle.table.specs.declared.Kind.the-variants.{Broken}
-use Rattle.table.specs.declared.Parent.{Parent}
-use Rattle.table.specs.Readers.{rowOf, named, kindOf, parentOf}
+use Rattle.table.specs.Readers.{rowOf, named, kindOf}
 use Rattle.table.specs.Rows.{countOf, row-whole, row-begins, rows-fit}
-use Rattle.table.specs.Agrees.{one, fits-length}
-use Rattle.table.specs.Judging.{stopwatchOf, settingIn, isKind, optionOf, rowIn, earlierIn, cellsFit, rowFits, widthOf}
+use Rattle.table.specs.Agrees.{fits-length}
+use Rattle.table.specs.Judging.{stopwatchOf, settingIn, rowIn, earlierIn, cellsFit, rowFits, widthOf}
 
 -- ---- a row's place
 pub start-within : (n width row : ℕ) → row ≤ n / width → row * width ≤ n
@@ -73,27 +72,6 @@ module _ (row : List ℕ) (at end : ℕ) where
   unfolding cellsFit
   cells-next h e fits = let m : end - at ≡ suc (end - suc at) = omega arith in rw (m, port-fits (cell row at) (rw e at fits), add-one)
 
--- ---- a Processor whose ports fit
-module _ (row : List ℕ) (ports : cellsFit row 4 8 ≡ true) (setting : Fits w64 (cell row 8)) where
-  capacity-fits : isWord (capacityIn row) ≡ true
-  capacity-fits = by (isGiven 2 row)
-    where
-      by : (given : Bool) → isWord (if given then cell row 8 else omittedCapacity) ≡ true
-      by true = word-fits (cell row 8) setting
-      by false = refl
-
-  both-ports : (p q r s : Bool) → hold (p ∷ q ∷ r ∷ s ∷ []) ≡ true → (p ≡ true) × (s ≡ true)
-  both-ports true true true s h = (refl, sym (one s) ∙ h)
-  both-ports true true false s h = absurd (false≢true h)
-  both-ports true false r s h = absurd (false≢true h)
-  both-ports false q r s h = absurd (false≢true h)
-
-  pub processor-fits : cell row 1 ≡ 1 → isKind (kindOf (kindIn row)) ≡ true
-  unfolding cellsFit
-  processor-fits e =
-      let p = both-ports (isPort (cell row 4)) (isPort (cell row 5)) (isPort (cell row 6)) (isPort (cell row 7)) ports in
-      rw (e, p .0, p .1, capacity-fits)
-
 -- ---- a stopwatch whose ports fit: what is left is whether they differ
 pub ports-left : (t : Bool) {a b c d : ℕ} (m : Metric) → a ≤ 65535 → b ≤ 65535 → c ≤ 65535 → d ≤ 65535 → hold (not (eqb a b) ∷ not (eqb a c) ∷ not (eqb b c) ∷ []) ≡ t
     → (if t then named (stopwatchOf a b c d m) else Broken) ≡ kindOf (some (stopwatchOf a b c d m))
@@ -123,11 +101,6 @@ module _ {w : ℕ} (row : List ℕ) (e : w ≡ settingIn 4 0 row) where
 
   pub metric-else : (w ≡ 0 → ⊥) → (w ≡ 1 → ⊥) → metricIn row ≡ none
   metric-else g h = metric-read ∙ rw (ne-eqb w 0 g, ne-eqb w 1 h)
-
--- ---- a parent that was read
-pub parent-back : {p : Parent} (o : Option ℕ) → p ≡ parentOf o → o ≡ optionOf p
-parent-back none e = sym (ap optionOf e)
-parent-back (some id) e = sym (ap optionOf e)
 
 -- ---- a search backwards through the rows before `k`
 module _ (test : Table.Row → Bool) (models : List ℕ) where

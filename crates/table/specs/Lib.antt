@@ -7,6 +7,7 @@ pub mod Rising
 pub mod Searched
 pub mod Earlier
 pub mod Agrees
+pub mod Readings
 pub mod Judged
 pub mod Passed
 pub mod Refused

@@ -1,7 +1,7 @@
--- What the words of a table say where intake refuses it: the rows before a bad one are those of their words, and the bad one fails the tests of its own. Assumes nothing.
+-- What the words of a table say where intake refuses it: the rows before a bad one are those of their words, and the bad one fails the tests of its own; and that none does where no bad one is found. Assumes nothing.
 use Prim.Native.Nat.{ℕ, zero, suc, _+_, _*_, _≤_, _<_}
 use mathlib.Core.Path.{_≡_, refl, sym, ap, _∙_, subst}
-use mathlib.Core.Bool.{Bool, false, not}
+use mathlib.Core.Bool.{Bool, true, false, not}
 use mathlib.Core.List.{List, [], map, reverseAux}
 use mathlib.Core.Option.{Option, none, some}
 use native.Mathlib.Decide.{decLe}
@@ -26,7 +26,7 @@ use Rattle.table.specs.Readers.{rowOf}
 use Rattle.table.specs.Rows.{countOf, rows-are, lines-are, rows-fit}
 use Rattle.table.specs.Judging.{rowIn, earlierIn, allIn, widthOf, rowKeeps, connectorKeeps, couplingKeeps, keepsIn, firstBadIn}
 use Rattle.table.specs.Agrees.{placeOf, read}
-use Rattle.table.specs.Judged.{rows-agree, connectors-agree, couplings-agree, rows-are-read, count-is, some-order}
+use Rattle.table.specs.Judged.{all-kept, row-kept, rows-agree, connectors-agree, couplings-agree, rows-are-read, count-is, some-order}
 use Rattle.table.specs.Passed.{place-none}
 
 -- ---- the words of a row, past the last too
@@ -60,22 +60,26 @@ module _ (models : List ℕ) (k : ℕ) where
   unfolding keepsIn
   bad-connector connectors e = bad-at Connectors models connectors k (sym (connectors-agree models connectors) ∙ e)
 
+  pub connector-passes : (connectors : List ℕ) → firstBad connectorRules 0 (map connectorRow (rowsOf connectorWidth connectors)) ≡ none → k < countOf connectorWidth connectors → connectorKeeps (rowOf connectorWidth connectors k) ≡ true
+  unfolding keepsIn
+  connector-passes connectors e l = all-kept Connectors models connectors (place-none _ (sym (connectors-agree models connectors) ∙ e)) k l
+
 -- ---- the rows before it
 module _ (models : List ℕ) where
   -- the row j is read whole
   abbrev Read : ℕ → Type 0
   Read j = modelRow (rowOf modelWidth models j) ≡ some (rowIn models j)
 
-  fine-read : (k : ℕ) → k ≤ countOf modelWidth models → Fine (RowFine [] (map modelRow (rowsOf modelWidth models))) k → (j : ℕ) → j < k → Read j
-  fine-read k few fine j l = go (RowKeeps (reverseAux (whole (take j rows)) [])) (modelRow (rowOf modelWidth models j)) refl (subst (Whole (RowKeeps (reverseAux (whole (take j rows)) []))) is (fine j l))
-    where
-      rows : List (Option Row)
-      rows = map modelRow (rowsOf modelWidth models)
+  pub posted-is : (j : ℕ) → j < countOf modelWidth models → getD (map modelRow (rowsOf modelWidth models)) j none ≡ modelRow (rowOf modelWidth models j)
+  posted-is j l =
+      ap (λ (rs : List (Option Row)). getD rs j none) (lines-are modelRow modelWidth models)
+      ∙ getD-from (λ i. modelRow (rowOf modelWidth models i)) none 0 (countOf modelWidth models) j l ∙ ap (λ i. modelRow (rowOf modelWidth models i)) (zero-add j)
 
-      is : getD rows j none ≡ modelRow (rowOf modelWidth models j)
-      is =
-          ap (λ (rs : List (Option Row)). getD rs j none) (lines-are modelRow modelWidth models)
-          ∙ getD-from (λ i. modelRow (rowOf modelWidth models i)) none 0 (countOf modelWidth models) j (omega arith) ∙ ap (λ i. modelRow (rowOf modelWidth models i)) (zero-add j)
+  pub fine-read : (k : ℕ) → k ≤ countOf modelWidth models → Fine (RowFine [] (map modelRow (rowsOf modelWidth models))) k → (j : ℕ) → j < k → Read j
+  fine-read k few fine j l = go (RowKeeps earlier) (modelRow (rowOf modelWidth models j)) refl (subst (Whole (RowKeeps earlier)) (posted-is j (omega arith)) (fine j l))
+    where
+      earlier : List Row
+      earlier = reverseAux (whole (take j (map modelRow (rowsOf modelWidth models)))) []
 
       go : (P : Row → Type 0) (o : Option Row) → modelRow (rowOf modelWidth models j) ≡ o → Whole P o → Read j
       go P none e w = absurd w
@@ -104,6 +108,14 @@ module _ (models : List ℕ) (fine : firstBadRow 0 [] (map modelRow (rowsOf mode
       → couplingKeeps (allIn models) (rowOf couplingWidth couplings k) ≡ false
   unfolding keepsIn
   bad-coupling couplings k e = bad-at Couplings models couplings k (sym (couplings-agree models couplings no-bad-row) ∙ e)
+
+  pub row-passes : (k : ℕ) → k < countOf modelWidth models → rowKeeps models k ≡ true
+  row-passes = row-kept models no-bad-row
+
+  pub coupling-passes : (couplings : List ℕ) (k : ℕ) → firstBad (couplingRules (whole (map modelRow (rowsOf modelWidth models)))) 0 (map couplingRow (rowsOf couplingWidth couplings)) ≡ none
+      → k < countOf couplingWidth couplings → couplingKeeps (allIn models) (rowOf couplingWidth couplings k) ≡ true
+  unfolding keepsIn
+  coupling-passes couplings k e l = all-kept Couplings models couplings (place-none _ (sym (couplings-agree models couplings no-bad-row) ∙ e)) k l
 
   -- the rows, in either order
   pub some-rows : (test : Row → Bool) → some-of test (whole (map modelRow (rowsOf modelWidth models))) ≡ some-of test (allIn models)

@@ -242,19 +242,21 @@ fn parent_in(cells: &[u64]) -> Parent
     }
 }
 
-// The words of a row of each part: fewer where it is cut short, none past the last.
+// The words of a model row: fewer where it is cut short, none past the last.
 pub fn model_words(models: &[u64], row: usize) -> &[u64]
     ensures { λ r. ⌜ now r ≡ rowOf Layout.modelWidth (now (models .entry)) row ⌝ }
 {
     row_of(models, 10, row)
 }
 
+// The words of a connector, in the same way.
 pub fn connector_words(connectors: &[u64], row: usize) -> &[u64]
     ensures { λ r. ⌜ now r ≡ rowOf Layout.connectorWidth (now (connectors .entry)) row ⌝ }
 {
     row_of(connectors, 4, row)
 }
 
+// The words of a coupling, in the same way.
 pub fn coupling_words(couplings: &[u64], row: usize) -> &[u64]
     ensures { λ r. ⌜ now r ≡ rowOf Layout.couplingWidth (now (couplings .entry)) row ⌝ }
 {

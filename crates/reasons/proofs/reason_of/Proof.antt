@@ -1,8 +1,8 @@
 -- `reasons::reason_of` meets its contract: by intake's verdict. Assumes nothing.
 use mathlib.Core.Path.{ap, _∙_}
+use borrow.Author.Needs.{needs}
 use Rattle.reasons.specs.Reasons.{connectorReason, couplingReason}
 use Rattle.reasons.proofs.Laws.{answered}
-use borrow.Author.Needs.{needs}
 use Rattle.reasons.proofs.reason_of.Statement.{statement}
 use Rattle.reasons.proofs.reason_of.Tie as tie
 
@@ -44,28 +44,31 @@ coupling-reason-requires c κs = search needs
 
 returns : tie.Need-returns
 returns c =
-    let a = (c .before .before .before .before .before .before) .args in
-    answered (a .models .now) (a .connectors .now) (a .couplings .now) ((c .before .before .intake) .ensures) ((c .enum-told) .given .1)
+    let a = c .before .before .before .before .before .before .args in
+    answered (a .models .now) (a .connectors .now) (a .couplings .now) (c .before .before .intake .ensures) (c .enum-told .given .1)
 
 returns-2 : tie.Need-returns-2
 returns-2 c =
-    let a = (c .before .before .before .before .before .before .before) .args in
-    (c .size-reason) .ensures ∙ answered (a .models .now) (a .connectors .now) (a .couplings .now) ((c .before .before .before .intake) .ensures) ((c .before .enum-told2) .given .1)
+    let a = c .before .before .before .before .before .before .before .args in
+    c .size-reason .ensures ∙ answered (a .models .now) (a .connectors .now) (a .couplings .now) (c .before .before .before .intake .ensures) (c .before .enum-told2 .given .1)
 
 returns-3 : tie.Need-returns-3
 returns-3 c =
-    let a = (c .before .before .before .before .before .before .before .before) .args in
-    (c .model-reason) .ensures ∙ answered (a .models .now) (a .connectors .now) (a .couplings .now) ((c .before .before .before .before .intake) .ensures) ((c .before .before .row) .given .1)
+    let back = c .before .before .before .before in
+    let a = back .before .before .before .before .args in
+    c .model-reason .ensures ∙ answered (a .models .now) (a .connectors .now) (a .couplings .now) (back .intake .ensures) (c .before .before .row .given .1)
 
 returns-4 : tie.Need-returns-4
 returns-4 c =
-    let a = (c .before .before .before .before .before .before .before .before .before) .args in
-    (c .connector-reason) .ensures ∙ ap connectorReason ((c .before .connector-words) .ensures) ∙ answered (a .models .now) (a .connectors .now) (a .couplings .now) ((c .before .before .before .before .before .intake) .ensures) ((c .before .before .before .row2) .given .1)
+    let back = c .before .before .before .before in
+    let a = back .before .before .before .before .before .args in
+    c .connector-reason .ensures ∙ ap connectorReason (c .before .connector-words .ensures) ∙ answered (a .models .now) (a .connectors .now) (a .couplings .now) (back .before .intake .ensures) (c .before .before .before .row2 .given .1)
 
 returns-5 : tie.Need-returns-5
 returns-5 c =
-    let a = (c .before .before .before .before .before .before .before .before .before) .args in
-    (c .coupling-reason) .ensures ∙ ap (couplingReason (a .models .now)) ((c .before .coupling-words) .ensures) ∙ answered (a .models .now) (a .connectors .now) (a .couplings .now) ((c .before .before .before .before .before .intake) .ensures) ((c .before .before .before .row3) .given .1)
+    let back = c .before .before .before .before in
+    let a = back .before .before .before .before .before .args in
+    c .coupling-reason .ensures ∙ ap (couplingReason (a .models .now)) (c .before .coupling-words .ensures) ∙ answered (a .models .now) (a .connectors .now) (a .couplings .now) (back .before .intake .ensures) (c .before .before .before .row3 .given .1)
 
 pub reason-of-spec : {M : Type 1} → statement M
 reason-of-spec =

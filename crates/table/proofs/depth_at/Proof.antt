@@ -6,7 +6,7 @@ use borrow.Author.Needs.{needs}
 use lib.ListN.{length}
 use Rattle.rules.specs.Layout.{modelWidth, parentIn}
 use Rattle.table.specs.Readers.{rowOf, depthIn}
-use Rattle.table.proofs.Laws.{parent-back}
+use Rattle.table.specs.Readings.{parent-back}
 use Rattle.table.proofs.Depths.{depthFrom, depth-end, depth-top, depth-hit, depth-skip, depth-past}
 use Rattle.table.proofs.depth_at.Statement.{statement}
 use Rattle.table.proofs.depth_at.Tie as tie

@@ -4,7 +4,7 @@ use borrow.Author.Tests.{eq-eqb, ne-eqb}
 use borrow.Author.Needs.{needs}
 use Rattle.rules.specs.Layout.{parentIn}
 use Rattle.table.specs.Judging.{optionOf}
-use Rattle.table.proofs.Laws.{parent-back}
+use Rattle.table.specs.Readings.{parent-back}
 use Rattle.table.proofs.is_child.Statement.{statement}
 use Rattle.table.proofs.is_child.Tie as tie
 

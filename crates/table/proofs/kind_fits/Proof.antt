@@ -8,7 +8,7 @@ use types.Run.{OneOf, miss}
 use Rattle.table.specs.declared.Kind.{Kind}
 use Rattle.table.specs.declared.Kind.the-variants.{Processor, Batcher, Stopwatch, Coupled, Broken}
 use Rattle.table.specs.Judging.{isKind}
-use Rattle.table.proofs.Laws.{processor-fits}
+use Rattle.table.specs.Readings.{processor-fits}
 use Rattle.table.proofs.Kind.{the-type}
 use Rattle.table.proofs.kind_fits.Statement.{statement}
 use Rattle.table.proofs.kind_fits.Tie as tie
@@ -28,7 +28,7 @@ returns : tie.Need-returns
 returns c =
     let d = c .before in
     let s = d .before .before in
-    sym (processor-fits (s .args .cells .now) (s .pre) (d .before .shared-slice-known .given 8) (sym (d .word-at .ensures) ∙ c .if1 .taken))
+    sym (processor-fits (s .args .cells .now) (s .pre) (d .before .shared-slice-known .given 8 .fits) (sym (d .word-at .ensures) ∙ c .if1 .taken))
 
 returns-2 : tie.Need-returns-2
 returns-2 c = rw (sym (c .before .before .word-at .ensures) ∙ c .if2 .taken)

@@ -4,7 +4,7 @@ use borrow.Author.Needs.{needs}
 use Rattle.rules.specs.Layout.{parentIn}
 use Rattle.table.specs.Judging.{optionOf, parentJoins}
 use Rattle.table.specs.Earlier.{coupled-id-is}
-use Rattle.table.proofs.Laws.{parent-back}
+use Rattle.table.specs.Readings.{parent-back}
 use Rattle.table.proofs.parent_fits.Statement.{statement}
 use Rattle.table.proofs.parent_fits.Tie as tie
 
