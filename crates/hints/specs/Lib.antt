@@ -2,3 +2,4 @@
 pub mod Naming
 pub mod NamingCases
 pub mod NamingLaws
+pub mod NamingPassed
