@@ -5,8 +5,9 @@ use mathlib.Core.List.{List, [], _∷_, map}
 use mathlib.Core.Option.{Option, none, some}
 use lib.ListN.{length}
 use lib.Dec.{eqb}
-use Rattle.rules.specs.Base.{if_then_else_, those, chosen, some-of, from}
+use Rattle.rules.specs.Base.{if_then_else_, those, chosen, from}
 use Rattle.rules.specs.Table.{Coupling, externalInput, externalOutput, internalCoupling, Table, idAt, kindAt, isParent, isParentless, parentless, components}
+use Rattle.rules.specs.Valid.{member}
 use Rattle.rules.specs.Layout.{modelWidth, couplingWidth, parentIn, kindIn}
 use Rattle.table.specs.declared.Kind.{Kind}
 use Rattle.table.specs.declared.Kind.the-variants.{Processor, Batcher, Stopwatch, Coupled, Broken}
@@ -44,7 +45,7 @@ portsOf Out couplings id Broken = []
 -- ---- an end: of the models that have its id the first counts (in a table that passes intake there is one at most)
 abbrev pub knownBy : (ℕ → List ℕ) → ℕ → List ℕ → Known
 knownBy ports port [] = known.NoModel
-knownBy ports port (i ∷ more) = if some-of (λ p. eqb p port) (ports i) then known.Known else known.NoPort
+knownBy ports port (i ∷ more) = if member port (ports i) then known.Known else known.NoPort
 
 -- ---- in the rules' table
 abbrev pub portsAt : Table → Side → ℕ → List ℕ
