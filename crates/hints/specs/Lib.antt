@@ -3,3 +3,4 @@ pub mod Naming
 pub mod NamingCases
 pub mod NamingLaws
 pub mod NamingPassed
+pub mod Heard
