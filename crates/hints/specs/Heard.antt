@@ -15,16 +15,16 @@ use Rattle.rules.specs.declared.Processor.{Processor}
 use Rattle.rules.specs.declared.Stopwatch.{Stopwatch}
 use Rattle.rules.specs.declared.Message.{Message}
 use Rattle.rules.specs.Base.{Outcome, refused, done, _>>=_, if_then_else_, each, those, chosen, from}
-use Rattle.rules.specs.Table.{Kind, processor, batcher, stopwatch, coupled, Coupling, externalInput, externalOutput, Table, Target, Connector, rowAt, idAt, kindAt, isParent, isParentless, parentless, components, inputs, outputs, connected}
+use Rattle.rules.specs.Table.{Kind, processor, batcher, stopwatch, coupled, Coupling, externalInput, externalOutput, internalCoupling, Table, Target, Connector, rowAt, idAt, kindAt, isParent, isParentless, parentless, components, inputs, outputs, connected}
 use Rattle.rules.specs.Simulation.{Simulation, ProcessorState, StopwatchState, Parked, stateAt, asProcessor, asStopwatch, ofProcessor, ofStopwatch}
 use Rattle.rules.specs.Models.{Fate, Passed, processorExternal, stopwatchExternal}
 use Rattle.rules.specs.Step.{World, Out, External, came, noted, external, internal, internalAs, levels, taken, unpark, park, hand, turn, due, becomes, moved, outAt}
 use Rattle.rules.specs.Valid.{isValid, member}
 use Rattle.rules.specs.Calls.{getStatus}
-use Rattle.rules.specs.Ends.{All, nil, _&_, all-those}
+use Rattle.rules.specs.Ends.{no-some, All, nil, _&_, all-those}
 use Rattle.rules.specs.Exactly.{processor-external-exactly, stopwatch-external-exactly, status-exactly}
 use Rattle.rules.specs.Depth.{Fine, all-in}
-use Rattle.rules.specs.Decides.{Decides, tells, passes, is-true, is-false, Any, here, there, same, _∈_, member-decides, those-element, chosen-element, parentless-element, components-element, inputs-element, outputs-element, connected-element}
+use Rattle.rules.specs.Decides.{Decides, tells, passes, either, is-true, is-false, Any, here, there, same, _∈_, member-decides, those-element, chosen-element, parentless-element, components-element, inputs-element, outputs-element, connected-element}
 use Rattle.hints.specs.declared.Side.{Side}
 use Rattle.hints.specs.declared.Side.the-variants as sides
 use Rattle.hints.specs.declared.Known.{Known}
@@ -184,3 +184,42 @@ any-map f (there p) = there (any-map f p)
 nothing-in : {A : Type 0} (xs : List A) → ((x : A) → x ∈ xs → ⊥) → xs ≡ []
 nothing-in [] never = refl
 nothing-in (x ∷ xs) never = absurd (never x (here refl))
+
+module _ (t : Table) (owner port : ℕ) where
+  input-port : (c : Coupling) → portFrom sides.In owner c ≡ some port → (target tp : ℕ) × (c ≡ externalInput owner port target tp)
+  input-port (externalInput o sp target tp) e = elim (either (same o owner)) [
+    | inl f ↦ let g : some sp ≡ some port = sym (rw (is-true (same o owner) f)) ∙ e in let q : sp ≡ port = cc in (target, tp, λ k. externalInput (f k) (q k) target tp)
+    | inr n ↦ absurd (no-some (sym (rw (is-false (same o owner) n)) ∙ e))
+  ]
+  input-port (externalOutput o source sp tp) e = absurd (no-some e)
+  input-port (internalCoupling o source sp target tp) e = absurd (no-some e)
+
+  -- "none matching, it is ignored": a Coupled has no such port exactly if no input coupling of it matches
+  pub no-inputs : (inputs t owner port ≡ []) ↔ (member port (chosen (portFrom sides.In owner) (t .couplings)) ≡ false)
+  no-inputs = (
+    λ e. has .1 (λ at. from-any (ports .0 at) e),
+    λ f. nothing-in (inputs t owner port) (λ to at. has .0 f (ports .1 (any-map (λ c e. ap (portFrom sides.In owner) e ∙ rw (is-true (same owner owner) refl)) (inputs-element t owner port to .0 at)))),
+  )
+    where
+      has : (member port (chosen (portFrom sides.In owner) (t .couplings)) ≡ false) ↔ (port ∈ chosen (portFrom sides.In owner) (t .couplings) → ⊥)
+      has = fails-is (member-decides port (chosen (portFrom sides.In owner) (t .couplings)))
+
+      ports : (port ∈ chosen (portFrom sides.In owner) (t .couplings)) ↔ Any (λ c. portFrom sides.In owner c ≡ some port) (t .couplings)
+      ports = chosen-element (portFrom sides.In owner) (t .couplings) port
+
+      none-of : {A : Type 0} {x : A} {xs : List A} → xs ≡ [] → x ∈ xs → ⊥
+      none-of e (here f) = let z : _≡_ {A = ℕ} 0 1 = cc in omega arith
+      none-of e (there at) = let z : _≡_ {A = ℕ} 0 1 = cc in omega arith
+
+      from-any : Any (λ c. portFrom sides.In owner c ≡ some port) (t .couplings) → inputs t owner port ≡ [] → ⊥
+      from-any at e = let found = witness at in none-of e (inputs-element t owner port (record { target = found .0; port = found .1 }) .1 (found .2))
+        where
+          witness : {cs : List Coupling} → Any (λ c. portFrom sides.In owner c ≡ some port) cs → (target tp : ℕ) × (externalInput owner port target tp ∈ cs)
+          witness (here {x = c} e) = let is = input-port c e in (is .0, is .1, here (is .2))
+          witness (there at) = let is = witness at in (is .0, is .1, there (is .2))
+
+-- a Coupled passes on nothing of what comes to such a port
+pub coupled-hears : (t : Table) (services : List Float) (depth : ℕ) (clock : Float) (i port content : ℕ) (w : World) → kindAt t i ≡ coupled → member port (portsAt t sides.In i) ≡ false
+    → external t services (suc depth) clock i port content w ≡ done (noted (came clock i port content Passed) w)
+unfolding external
+coupled-hears t services depth clock i port content w e f = rw e (rw (no-inputs t (idAt t i) port .1 (rw e at f)))
