@@ -1,10 +1,10 @@
 -- What is warned of is what the rules' step passes by: a message to an end with no model reaches nobody; one to a port that is not there is refused or ignored; nothing comes out at a port that is not there. Assumes nothing.
-use Prim.Native.Nat.{ℕ, zero, suc, _<_}
-use mathlib.Core.Path.{_≡_, refl, sym, ap, _∙_, subst}
-use mathlib.Core.Logic.{_↔_, _⊎_, inl, inr}
+use Prim.Native.Nat.{ℕ, suc, _<_}
+use mathlib.Core.Path.{_≡_, refl, sym, ap, _∙_}
+use mathlib.Core.Logic.{_↔_, inl, inr}
 use mathlib.Core.Bool.{Bool, true, false, false≢true}
-use mathlib.Core.List.{List, [], _∷_, _++_, map}
-use mathlib.Core.Option.{Option, none, some}
+use mathlib.Core.List.{List, [], _∷_, _++_}
+use mathlib.Core.Option.{Option, some}
 use native.Mathlib.Omega.{arith}
 use lib.ListN.{length}
 use lib.Dec.{T, eqb}
@@ -15,19 +15,18 @@ use Rattle.rules.specs.declared.Processor.{Processor}
 use Rattle.rules.specs.declared.Stopwatch.{Stopwatch}
 use Rattle.rules.specs.declared.Message.{Message}
 use Rattle.rules.specs.Base.{Outcome, refused, done, _>>=_, if_then_else_, each, those, chosen, from}
-use Rattle.rules.specs.Table.{Kind, processor, batcher, stopwatch, coupled, Coupling, externalInput, externalOutput, internalCoupling, Table, Target, Connector, rowAt, idAt, kindAt, isParent, isParentless, parentless, components, inputs, outputs, connected}
+use Rattle.rules.specs.Table.{processor, stopwatch, coupled, Coupling, externalInput, externalOutput, internalCoupling, Table, rowAt, idAt, kindAt, isParent, isParentless, parentless, components, inputs}
 use Rattle.rules.specs.Simulation.{Simulation, ProcessorState, StopwatchState, Parked, stateAt, asProcessor, asStopwatch, ofProcessor, ofStopwatch}
 use Rattle.rules.specs.Models.{Fate, Passed, processorExternal, stopwatchExternal}
-use Rattle.rules.specs.Step.{World, Out, External, came, noted, external, internal, internalAs, levels, taken, unpark, park, hand, turn, due, becomes, moved, outAt}
+use Rattle.rules.specs.Step.{World, External, came, noted, external, levels, taken, unpark, becomes, moved}
 use Rattle.rules.specs.Valid.{isValid, member}
 use Rattle.rules.specs.Calls.{getStatus}
 use Rattle.rules.specs.Ends.{no-some, All, nil, _&_, all-those}
 use Rattle.rules.specs.Exactly.{processor-external-exactly, stopwatch-external-exactly, status-exactly}
 use Rattle.rules.specs.Depth.{Fine, all-in}
-use Rattle.rules.specs.Decides.{Decides, tells, passes, either, is-true, is-false, Any, here, there, same, _∈_, member-decides, those-element, chosen-element, parentless-element, components-element, inputs-element, outputs-element, connected-element}
+use Rattle.rules.specs.Decides.{Decides, tells, passes, either, is-true, is-false, Any, here, there, same, _∈_, member-decides, those-element, chosen-element, parentless-element, components-element, inputs-element}
 use Rattle.hints.specs.declared.Side.{Side}
 use Rattle.hints.specs.declared.Side.the-variants as sides
-use Rattle.hints.specs.declared.Known.{Known}
 use Rattle.hints.specs.declared.Known.the-variants as known
 use Rattle.hints.specs.Naming.{portFrom, portsAt, knownBy, endAmong, rootEnd, componentEnd}
 
@@ -115,6 +114,17 @@ module _ (t : Table) (ok : Fine t) (port : ℕ) (side : Side) where
   pub component-meant : (owner i : ℕ) → i ∈ components t owner → componentEnd t owner (idAt t i) port side ≡ (if member port (portsAt t side i) then known.Known else known.NoPort)
   component-meant owner i at = meant (isParent owner) i (components-element t owner i .0 at .0) at
 
+  -- "a port that the model does not have"
+  told : (b : Bool) → ((if b then known.Known else known.NoPort) ≡ known.NoPort) ↔ (b ≡ false)
+  told true = (λ e. let z : _≡_ {A = ℕ} 0 1 = cc in absurd (omega arith), λ e. absurd (false≢true (sym e)))
+  told false = (λ e. refl, λ e. refl)
+
+  pub root-no-port : (i : ℕ) → i ∈ parentless t → (rootEnd t (idAt t i) port side ≡ known.NoPort) ↔ (member port (portsAt t side i) ≡ false)
+  root-no-port i at = rw (root-meant i at) (told (member port (portsAt t side i)))
+
+  pub component-no-port : (owner i : ℕ) → i ∈ components t owner → (componentEnd t owner (idAt t i) port side ≡ known.NoPort) ↔ (member port (portsAt t side i) ≡ false)
+  component-no-port owner i at = rw (component-meant owner i at) (told (member port (portsAt t side i)))
+
 -- 4: "status of an id not among the models without parent" is given exactly where a root's end names no model
 pub status-not-found : (sim : Simulation) → T (isValid sim) → (id port : ℕ) (side : Side) → (getStatus id sim ≡ refused ModelNotFound) ↔ (rootEnd (sim .table) id port side ≡ known.NoModel)
 status-not-found sim valid id port side =
@@ -177,7 +187,7 @@ module _ (t : Table) (services : List Float) (depth : ℕ) (clock : Float) (i po
       has = fails-is (member-decides port (p .start ∷ p .stop ∷ p .ask ∷ []))
 
 -- ---- a Coupled
-any-map : {A : Type 0} {P Q : A → Type 0} {xs : List A} → ((x : A) → P x → Q x) → Any P xs → Any Q xs
+pub any-map : {A : Type 0} {P Q : A → Type 0} {xs : List A} → ((x : A) → P x → Q x) → Any P xs → Any Q xs
 any-map f (here {x = x} h) = here (f x h)
 any-map f (there p) = there (any-map f p)
 

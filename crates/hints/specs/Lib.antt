@@ -4,3 +4,4 @@ pub mod NamingCases
 pub mod NamingLaws
 pub mod NamingPassed
 pub mod Heard
+pub mod PutOut
