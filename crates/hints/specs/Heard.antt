@@ -1,4 +1,4 @@
--- What is warned of is what the rules' step passes by: a message to an end with no model reaches nobody; one to a port that is not there is refused or ignored; nothing comes out at a port that is not there. Assumes nothing.
+-- What is not known takes nothing: a message to an end that names no model reaches nobody, and one to a port that is not there is refused with 5 or ignored (but a Batcher takes it). Assumes nothing.
 use Prim.Native.Nat.{ℕ, suc, _<_}
 use mathlib.Core.Path.{_≡_, refl, sym, ap, _∙_}
 use mathlib.Core.Logic.{_↔_, inl, inr}
@@ -28,7 +28,7 @@ use Rattle.rules.specs.Decides.{Decides, tells, passes, either, is-true, is-fal
 use Rattle.hints.specs.declared.Side.{Side}
 use Rattle.hints.specs.declared.Side.the-variants as sides
 use Rattle.hints.specs.declared.Known.the-variants as known
-use Rattle.hints.specs.Naming.{portFrom, portsAt, knownBy, endAmong, rootEnd, componentEnd}
+use Rattle.hints.specs.Naming.{ofPort, portFrom, portsAt, knownBy, endAmong, rootEnd, componentEnd}
 
 -- ---- no model
 known-not : known.Known ≡ known.NoModel → ⊥
@@ -40,7 +40,7 @@ port-not e = let z : _≡_ {A = ℕ} 0 1 = cc in omega arith
 some-model : (ports : ℕ → List ℕ) (port i : ℕ) (more : List ℕ) → knownBy ports port (i ∷ more) ≡ known.NoModel → ⊥
 some-model ports port i more = by (member port (ports i))
   where
-    by : (b : Bool) → (if b then known.Known else known.NoPort) ≡ known.NoModel → ⊥
+    by : (b : Bool) → ofPort b ≡ known.NoModel → ⊥
     by true e = known-not e
     by false e = port-not e
 
@@ -95,27 +95,27 @@ module _ (t : Table) (services : List Float) where
       (λ j at k s. each (λ (m : Parked). deeper j (m .port) (m .content)) (left-out (λ (m : Parked). eqb (m .component) (idAt t j)) before m after (is-false (same (m .component) (idAt t j)) (λ named. no-model t (components t (idAt t i)) (m .component) (m .port) sides.In .0 e j at (sym named))) k) s) w
 
 -- ---- the model that is meant: in a table that passes intake one row at most has the id
-meant-by : (ports : ℕ → List ℕ) (port i : ℕ) {found : List ℕ} → i ∈ found → All (λ k. k ≡ i) found → knownBy ports port found ≡ (if member port (ports i) then known.Known else known.NoPort)
+meant-by : (ports : ℕ → List ℕ) (port i : ℕ) {found : List ℕ} → i ∈ found → All (λ k. k ≡ i) found → knownBy ports port found ≡ ofPort (member port (ports i))
 meant-by ports port i at nil = absurd (passes (member-decides i []) at)
-meant-by ports port i at (e & more) = ap (λ (k : ℕ). if member port (ports k) then known.Known else known.NoPort) e
+meant-by ports port i at (e & more) = ap (λ (k : ℕ). ofPort (member port (ports k))) e
 
 module _ (t : Table) (ok : Fine t) (port : ℕ) (side : Side) where
   meant : (test : Option ℕ → Bool) (i : ℕ) → i < length (t .rows) → i ∈ those (λ k. test (rowAt t k .parent)) (from 0 (length (t .rows)))
-      → endAmong t (those (λ k. test (rowAt t k .parent)) (from 0 (length (t .rows)))) (idAt t i) port side ≡ (if member port (portsAt t side i) then known.Known else known.NoPort)
+      → endAmong t (those (λ k. test (rowAt t k .parent)) (from 0 (length (t .rows)))) (idAt t i) port side ≡ ofPort (member port (portsAt t side i))
   meant test i l at =
       meant-by (portsAt t side) port i (those-element (λ k. same (idAt t k) (idAt t i)) _ i .1 (at, refl))
       (all-those (λ k. eqb (idAt t k) (idAt t i)) (all-those (λ k. test (rowAt t k .parent)) (all-in t ok) (λ k m passes. m)) (λ k m named. ok .unique k i m l (tells (same (idAt t k) (idAt t i)) named)))
 
   -- an end with a root's id is told by that root's ports
-  pub root-meant : (i : ℕ) → i ∈ parentless t → rootEnd t (idAt t i) port side ≡ (if member port (portsAt t side i) then known.Known else known.NoPort)
+  pub root-meant : (i : ℕ) → i ∈ parentless t → rootEnd t (idAt t i) port side ≡ ofPort (member port (portsAt t side i))
   root-meant i at = meant isParentless i (parentless-element t i .0 at .0) at
 
   -- and so is a component's
-  pub component-meant : (owner i : ℕ) → i ∈ components t owner → componentEnd t owner (idAt t i) port side ≡ (if member port (portsAt t side i) then known.Known else known.NoPort)
+  pub component-meant : (owner i : ℕ) → i ∈ components t owner → componentEnd t owner (idAt t i) port side ≡ ofPort (member port (portsAt t side i))
   component-meant owner i at = meant (isParent owner) i (components-element t owner i .0 at .0) at
 
   -- "a port that the model does not have"
-  told : (b : Bool) → ((if b then known.Known else known.NoPort) ≡ known.NoPort) ↔ (b ≡ false)
+  told : (b : Bool) → (ofPort b ≡ known.NoPort) ↔ (b ≡ false)
   told true = (λ e. let z : _≡_ {A = ℕ} 0 1 = cc in absurd (omega arith), λ e. absurd (false≢true (sym e)))
   told false = (λ e. refl, λ e. refl)
 

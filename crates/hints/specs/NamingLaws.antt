@@ -30,7 +30,7 @@ use Rattle.table.specs.Passed.{couplingAt, couplingOf}
 use Rattle.hints.specs.declared.Side.{Side}
 use Rattle.hints.specs.declared.Side.the-variants.{In, Out}
 use Rattle.hints.specs.declared.Known.the-variants as known
-use Rattle.hints.specs.Naming.{portFrom, portsOf, couplingsIn, portsIn, knownBy, rowsWhere, endIn}
+use Rattle.hints.specs.Naming.{ofPort, portFrom, portsOf, couplingsIn, portsIn, knownBy, rowsWhere, endIn}
 
 -- ---- the row that is named
 -- the parent is the one that is asked for
@@ -78,13 +78,13 @@ module _ (wanted : Parent) (models couplings : List ℕ) (id port : ℕ) (side :
 
   -- the row that is found has the id, so its ports are those of a model with it
   pub end-at : (k : ℕ) → firstFrom (isNamed wanted models id) 0 rows ≡ At k → {kind : Kind} → kind ≡ kindOf (kindIn (rowOf modelWidth models k)) → {b : Bool} → b ≡ member port (portsOf side (couplingsIn couplings) id kind)
-      → (if b then known.Known else known.NoPort) ≡ endIn (isParentOf wanted) models couplings id port side
+      → ofPort b ≡ endIn (isParentOf wanted) models couplings id port side
   unfolding endIn
   end-at k e {kind} g {b} h =
       let first = first-at (isNamed wanted models id) 0 rows k e in
       let same : idIn models k ≡ id = eqb-true (idIn models k) id (and-first _ _ (first .2)) in
       let ports : portsOf side (couplingsIn couplings) id kind ≡ portsIn models couplings side k = λ i. portsOf side (couplingsIn couplings) (sym same i) (g i) in
-      ap (λ (b : Bool). if b then known.Known else known.NoPort) (h ∙ ap (member port) ports)
+      ap ofPort (h ∙ ap (member port) ports)
       ∙ sym (ap (knownBy (portsIn models couplings side) port) (named-are ∙ first .3))
 
 -- ---- the ports of a Coupled

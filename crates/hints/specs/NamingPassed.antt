@@ -7,7 +7,7 @@ use mathlib.Core.Option.{Option}
 use native.Mathlib.Omega.{arith}
 use lib.ListN.{length}
 use lib.Dec.{eqb}
-use Rattle.rules.specs.Base.{if_then_else_, those, from}
+use Rattle.rules.specs.Base.{those, from}
 use Rattle.rules.specs.Table.{Table, rowAt, idAt, isParent, isParentless}
 use Rattle.rules.specs.Intake.{intake, passed}
 use Rattle.rules.specs.Valid.{member}
@@ -16,13 +16,12 @@ use Rattle.rules.specs.Ends.{All, nil, _&_, all-those}
 use Rattle.rules.specs.Depth.{fine, passed-again, all-in}
 use Rattle.table.specs.Passed.{couplingAt, models-long, couplings-long, id-read, parent-read, kind-named, couplings-read}
 use Rattle.hints.specs.declared.Side.{Side}
-use Rattle.hints.specs.declared.Known.the-variants as known
-use Rattle.hints.specs.Naming.{portsOf, knownBy, portsAt, endAmong, rootEnd, componentEnd, couplingsIn, portsIn, endIn, rootEndIn, componentEndIn}
+use Rattle.hints.specs.Naming.{ofPort, portsOf, knownBy, portsAt, endAmong, rootEnd, componentEnd, couplingsIn, portsIn, endIn, rootEndIn, componentEndIn}
 
 -- ports that agree on these rows
 known-same : (f g : ℕ → List ℕ) (port : ℕ) {ks : List ℕ} → All (λ k. f k ≡ g k) ks → knownBy f port ks ≡ knownBy g port ks
 known-same f g port nil = refl
-known-same f g port (e & more) = ap (λ (ports : List ℕ). if member port ports then known.Known else known.NoPort) e
+known-same f g port (e & more) = ap (λ (ports : List ℕ). ofPort (member port ports)) e
 
 module _ (models connectors couplings : List ℕ) (t : Table) (h : intake (lent models connectors couplings) ≡ passed t) where
   rows-count : length (t .rows) ≡ length models / modelWidth
