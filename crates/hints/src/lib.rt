@@ -174,7 +174,7 @@ fn end_of(
     }
 }
 
-// What an end of a connector or an injection names: it is looked for among the models without parent.
+// What an end of a connector, or the target of an injection, names: it is looked for among the models without parent.
 pub fn root_end(models: &[u64], couplings: &[u64], id: u64, port: u64, side: Side) -> Known
     ensures { λ r. ⌜ r ≡ rootEndIn (now (models .entry)) (now (couplings .entry)) id port side ⌝ }
 {
