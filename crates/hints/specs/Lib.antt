@@ -2,3 +2,6 @@
 pub mod Naming
 pub mod NamingCases
 pub mod NamingLaws
+pub mod NamingPassed
+pub mod Heard
+pub mod PutOut

@@ -23,7 +23,7 @@ models =
     ++ (8 ∷ 2 ∷ 0 ∷ 99 ∷ 18 ∷ 99 ∷ 99 ∷ 28 ∷ 0 ∷ 0 ∷ [])
     ++ (9 ∷ 1 ∷ 0 ∷ 99 ∷ 19 ∷ 99 ∷ 99 ∷ 29 ∷ 99 ∷ [])
 
--- 4 takes at 31 and puts out at 41, 6 takes at 33 and puts out at 43. The last is cut short
+-- 4 takes at 31 and puts out at 41, 6 takes at 33 and puts out at 43. The last but one is of no kind, the last is cut short
 abbrev couplings : List ℕ
 couplings =
     (4 ∷ 1 ∷ 99 ∷ 31 ∷ 5 ∷ 16 ∷ [])
@@ -31,10 +31,12 @@ couplings =
     ++ (4 ∷ 3 ∷ 5 ∷ 26 ∷ 6 ∷ 33 ∷ [])
     ++ (6 ∷ 1 ∷ 99 ∷ 33 ∷ 7 ∷ 17 ∷ [])
     ++ (6 ∷ 2 ∷ 7 ∷ 27 ∷ 99 ∷ 43 ∷ [])
+    ++ (4 ∷ 4 ∷ 5 ∷ 34 ∷ 6 ∷ 44 ∷ [])
     ++ (4 ∷ 1 ∷ 99 ∷ 32 ∷ 5 ∷ [])
 
-abbrev twice : List ℕ
-twice =
+-- three rows with one id, the first in 4
+abbrev thrice : List ℕ
+thrice =
     (1 ∷ 1 ∷ 1 ∷ 4 ∷ 11 ∷ 99 ∷ 99 ∷ 21 ∷ 99 ∷ 99 ∷ [])
     ++ (1 ∷ 1 ∷ 0 ∷ 4 ∷ 12 ∷ 99 ∷ 99 ∷ 22 ∷ 99 ∷ 99 ∷ [])
     ++ (1 ∷ 1 ∷ 0 ∷ 4 ∷ 13 ∷ 99 ∷ 99 ∷ 23 ∷ 99 ∷ 99 ∷ [])
@@ -45,7 +47,7 @@ root id port side = rootEndIn models couplings id port side
 abbrev within : ℕ → ℕ → ℕ → Side → Known
 within owner id port side = componentEndIn models couplings owner id port side
 
-pub record Ends : Type 0 where
+pub record Named : Type 0 where
   -- the atoms: on each side their own ports, and not those of the other
   pub processor-in : root 1 11 In ≡ known.Known
   pub processor-out : root 1 21 Out ≡ known.Known
@@ -75,6 +77,10 @@ pub record Ends : Type 0 where
   pub its-component-out : root 4 26 Out ≡ known.NoPort
   pub another-in : root 4 33 In ≡ known.NoPort
   pub another-out : root 4 43 Out ≡ known.NoPort
+  pub inner-source : root 4 26 In ≡ known.NoPort
+  pub inner-target : root 4 33 Out ≡ known.NoPort
+  pub no-kind-in : root 4 34 In ≡ known.NoPort
+  pub no-kind-out : root 4 44 Out ≡ known.NoPort
   pub cut-short-coupling : root 4 32 In ≡ known.NoPort
   -- no model of that id, or none without parent
   pub nobody : root 10 11 In ≡ known.NoModel
@@ -101,16 +107,16 @@ pub record Ends : Type 0 where
   pub a-root : within 4 1 11 In ≡ known.NoModel
   pub itself : within 4 4 31 In ≡ known.NoModel
   pub no-coupled : within 1 5 16 In ≡ known.NoModel
-  -- of two rows with one id the first counts, among those that are asked for
-  pub first-counts : rootEndIn twice [] 1 12 In ≡ known.Known
-  pub second-not : rootEndIn twice [] 1 13 In ≡ known.NoPort
-  pub other-not : rootEndIn twice [] 1 11 In ≡ known.NoPort
-  pub other-within : componentEndIn twice [] 4 1 11 In ≡ known.Known
+  -- of rows with one id the first counts, among those that are asked for
+  pub first-counts : rootEndIn thrice [] 1 12 In ≡ known.Known
+  pub second-not : rootEndIn thrice [] 1 13 In ≡ known.NoPort
+  pub other-not : rootEndIn thrice [] 1 11 In ≡ known.NoPort
+  pub other-within : componentEndIn thrice [] 4 1 11 In ≡ known.Known
   -- no table
   pub nothing : rootEndIn [] [] 0 0 Out ≡ known.NoModel
   pub nothing-within : componentEndIn [] [] 0 0 0 In ≡ known.NoModel
 
-pub cases : Ends
+pub cases : Named
 unfolding endIn isTime ofBits fits le
 cases = record {
   processor-in = refl;
@@ -139,6 +145,10 @@ cases = record {
   its-component-out = refl;
   another-in = refl;
   another-out = refl;
+  inner-source = refl;
+  inner-target = refl;
+  no-kind-in = refl;
+  no-kind-out = refl;
   cut-short-coupling = refl;
   nobody = refl;
   nobody-out = refl;

@@ -1,16 +1,17 @@
 -- What the private functions of `hints` answer, and the searches that tell what an end names. Assumes nothing.
-use Prim.Native.Nat.{ℕ, _/_, _<_}
+use Prim.Native.Nat.{ℕ, _/_}
 use mathlib.Core.Path.{_≡_, refl, sym, ap, _∙_}
 use mathlib.Core.Bool.{Bool, true, false, _&&_, false≢true}
 use mathlib.Core.List.{List, [], _∷_, map}
 use mathlib.Core.Option.{Option, none, some}
 use native.Mathlib.Nat.{sub-zero}
 use native.Mathlib.Omega.{arith}
-use borrow.Author.Tests.{eqb-true, ne-eqb}
+use borrow.Author.Tests.{eqb-true}
 use lib.ListN.{length}
 use lib.Dec.{eqb}
 use Rattle.rules.specs.Base.{if_then_else_, those, chosen, some-of, from}
 use Rattle.rules.specs.Table.{isParent, isParentless}
+use Rattle.rules.specs.Valid.{member}
 use Rattle.rules.specs.Layout.{cell, modelWidth, couplingWidth, parentIn, kindIn}
 use Rattle.words.specs.declared.Found.{Found}
 use Rattle.words.specs.declared.Found.the-variants.{At, Nothing}
@@ -29,7 +30,7 @@ use Rattle.table.specs.Passed.{couplingAt, couplingOf}
 use Rattle.hints.specs.declared.Side.{Side}
 use Rattle.hints.specs.declared.Side.the-variants.{In, Out}
 use Rattle.hints.specs.declared.Known.the-variants as known
-use Rattle.hints.specs.Naming.{portFrom, portsOf, couplingsIn, portsIn, knownBy, rowsWhere, endIn}
+use Rattle.hints.specs.Naming.{ofPort, portFrom, portsOf, couplingsIn, portsIn, knownBy, rowsWhere, endIn}
 
 -- ---- the row that is named
 -- the parent is the one that is asked for
@@ -76,14 +77,14 @@ module _ (wanted : Parent) (models couplings : List ℕ) (id port : ℕ) (side :
   end-nobody e = sym (ap (knownBy (portsIn models couplings side) port) (named-are ∙ first-nothing (isNamed wanted models id) 0 rows e))
 
   -- the row that is found has the id, so its ports are those of a model with it
-  pub end-at : (k : ℕ) → firstFrom (isNamed wanted models id) 0 rows ≡ At k → {kind : Kind} → kind ≡ kindOf (kindIn (rowOf modelWidth models k)) → {b : Bool} → b ≡ some-of (λ p. eqb p port) (portsOf side (couplingsIn couplings) id kind)
-      → (if b then known.Known else known.NoPort) ≡ endIn (isParentOf wanted) models couplings id port side
+  pub end-at : (k : ℕ) → firstFrom (isNamed wanted models id) 0 rows ≡ At k → {kind : Kind} → kind ≡ kindOf (kindIn (rowOf modelWidth models k)) → {b : Bool} → b ≡ member port (portsOf side (couplingsIn couplings) id kind)
+      → ofPort b ≡ endIn (isParentOf wanted) models couplings id port side
   unfolding endIn
   end-at k e {kind} g {b} h =
       let first = first-at (isNamed wanted models id) 0 rows k e in
       let same : idIn models k ≡ id = eqb-true (idIn models k) id (and-first _ _ (first .2)) in
       let ports : portsOf side (couplingsIn couplings) id kind ≡ portsIn models couplings side k = λ i. portsOf side (couplingsIn couplings) (sym same i) (g i) in
-      ap (λ (b : Bool). if b then known.Known else known.NoPort) (h ∙ ap (some-of (λ p. eqb p port)) ports)
+      ap ofPort (h ∙ ap (member port) ports)
       ∙ sym (ap (knownBy (portsIn models couplings side) port) (named-are ∙ first .3))
 
 -- ---- the ports of a Coupled
@@ -161,10 +162,10 @@ module _ (couplings : List ℕ) (owner port : ℕ) where
   ports-are Out = refl
 
   -- a search for the key finds a coupling exactly if the Coupled has the port
-  pub port-found : (side : Side) {f : Found} → f ≡ nextRow (portKey side owner port) couplingWidth 0 (length couplings / couplingWidth) couplings → isFound f ≡ some-of (λ p. eqb p port) (portsOf side (couplingsIn couplings) owner Coupled)
+  pub port-found : (side : Side) {f : Found} → f ≡ nextRow (portKey side owner port) couplingWidth 0 (length couplings / couplingWidth) couplings → isFound f ≡ member port (portsOf side (couplingsIn couplings) owner Coupled)
   port-found side e =
       let n : ℕ = length couplings / couplingWidth in
       ap isFound (e ∙ searched side) ∙ first-some (matches (portKey side owner port) couplingWidth couplings) 0 n
       ∙ sym (some-chosen (λ p. eqb p port) (portFrom side owner) (couplingAt couplings) (from 0 n)
       ∙ (λ i. some-of (λ k. (same (rowOf couplingWidth couplings k) owner port side ∙ row-asks side k) i) (from 0 n)))
-      ∙ ap (some-of (λ p. eqb p port)) (ports-are side)
+      ∙ ap (member port) (ports-are side)

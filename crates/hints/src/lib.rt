@@ -9,8 +9,7 @@ ghost use mathlib.Core.Path.{_≡_};
 ghost use mathlib.Core.List.{[], _∷_};
 ghost use Prim.Native.Nat.{_/_};
 ghost use lib.ListN.{length};
-ghost use lib.Dec.{eqb};
-ghost use Rattle.rules.specs.Base.{some-of};
+ghost use Rattle.rules.specs.Valid.{member};
 ghost use Rattle.words.specs.Search.{firstFrom};
 ghost use Rattle.table.specs.declared.Kind.the-variants.{Coupled};
 ghost use Rattle.hints.specs.declared.Side.the-variants.{In, Out};
@@ -73,7 +72,7 @@ fn row_named(models: &[u64], id: u64, wanted: Parent) -> Found
 
 // Whether the port is one of three.
 fn is_one_of(port: u64, a: u16, b: u16, c: u16) -> bool
-    ensures { λ r. ⌜ r ≡ some-of (λ p. eqb p port) (a ∷ b ∷ c ∷ []) ⌝ }
+    ensures { λ r. ⌜ r ≡ member port (a ∷ b ∷ c ∷ []) ⌝ }
 {
     if a as u64 == port {
         return true;
@@ -110,7 +109,7 @@ fn port_key(owner: u64, port: u64, side: Side) -> Key
 
 // Whether a Coupled has the port, by its external couplings.
 fn coupled_has(couplings: &[u64], owner: u64, port: u64, side: Side) -> bool
-    ensures { λ r. ⌜ r ≡ some-of (λ p. eqb p port) (portsOf side (couplingsIn (now (couplings .entry))) owner Coupled) ⌝ }
+    ensures { λ r. ⌜ r ≡ member port (portsOf side (couplingsIn (now (couplings .entry))) owner Coupled) ⌝ }
 {
     let key = port_key(owner, port, side);
     match words::next_row(couplings, 6, 0, couplings.len() / 6, key) {
@@ -121,7 +120,7 @@ fn coupled_has(couplings: &[u64], owner: u64, port: u64, side: Side) -> bool
 
 // Whether the model takes messages at the port.
 fn takes(couplings: &[u64], id: u64, kind: Kind, port: u64) -> bool
-    ensures { λ r. ⌜ r ≡ some-of (λ p. eqb p port) (portsOf In (couplingsIn (now (couplings .entry))) id kind) ⌝ }
+    ensures { λ r. ⌜ r ≡ member port (portsOf In (couplingsIn (now (couplings .entry))) id kind) ⌝ }
 {
     match kind {
         Kind::Processor(row) => row.input as u64 == port,
@@ -134,7 +133,7 @@ fn takes(couplings: &[u64], id: u64, kind: Kind, port: u64) -> bool
 
 // Whether the model puts messages out at the port.
 fn puts_out(couplings: &[u64], id: u64, kind: Kind, port: u64) -> bool
-    ensures { λ r. ⌜ r ≡ some-of (λ p. eqb p port) (portsOf Out (couplingsIn (now (couplings .entry))) id kind) ⌝ }
+    ensures { λ r. ⌜ r ≡ member port (portsOf Out (couplingsIn (now (couplings .entry))) id kind) ⌝ }
 {
     match kind {
         Kind::Processor(row) => row.output as u64 == port,
@@ -146,7 +145,7 @@ fn puts_out(couplings: &[u64], id: u64, kind: Kind, port: u64) -> bool
 }
 
 fn has_port(couplings: &[u64], id: u64, kind: Kind, port: u64, side: Side) -> bool
-    ensures { λ r. ⌜ r ≡ some-of (λ p. eqb p port) (portsOf side (couplingsIn (now (couplings .entry))) id kind) ⌝ }
+    ensures { λ r. ⌜ r ≡ member port (portsOf side (couplingsIn (now (couplings .entry))) id kind) ⌝ }
 {
     match side {
         Side::In => takes(couplings, id, kind, port),
@@ -175,7 +174,7 @@ fn end_of(
     }
 }
 
-// What an end of a connector or an injection names: it is looked for among the models without parent.
+// What an end of a connector, or the target of an injection, names: it is looked for among the models without parent.
 pub fn root_end(models: &[u64], couplings: &[u64], id: u64, port: u64, side: Side) -> Known
     ensures { λ r. ⌜ r ≡ rootEndIn (now (models .entry)) (now (couplings .entry)) id port side ⌝ }
 {

@@ -1,10 +1,7 @@
 -- `hints::end_of` meets its contract. Assumes nothing.
 use mathlib.Core.Path.{_≡_, sym, ap, _∙_}
-use mathlib.Core.Bool.{Bool}
 use borrow.Author.Needs.{needs}
-use Rattle.rules.specs.Base.{if_then_else_}
-use Rattle.hints.specs.declared.Known.the-variants as known
-use Rattle.hints.specs.Naming.{endIn}
+use Rattle.hints.specs.Naming.{ofPort, endIn}
 use Rattle.hints.specs.NamingLaws.{isParentOf, end-nobody, end-at}
 use Rattle.hints.proofs.end_of.Statement.{statement}
 use Rattle.hints.proofs.end_of.Tie as tie
@@ -25,7 +22,7 @@ has-port-requires : tie.Need-has-port-requires
 has-port-requires c κs = search needs
 
 -- what is told of a row that is found
-told : (c : tie.After-has-port) → let a = c .before .before .before .before .before .before .before .before .args in (if c .has-port .result then known.Known else known.NoPort) ≡ endIn (isParentOf (a .wanted)) (a .models .now) (a .couplings .now) (a .id) (a .port) (a .side)
+told : (c : tie.After-has-port) → let a = c .before .before .before .before .before .before .before .before .args in ofPort (c .has-port .result) ≡ endIn (isParentOf (a .wanted)) (a .models .now) (a .couplings .now) (a .id) (a .port) (a .side)
 told c =
     let k = c .before .before .before in
     let n = k .before .before in
@@ -41,12 +38,12 @@ returns c =
 returns-2 : tie.Need-returns-2
 returns-2 c =
     let h = c .before in
-    ap (λ (b : Bool). if b then known.Known else known.NoPort) (sym (c .if1 .taken)) ∙ told h
+    ap ofPort (sym (c .if1 .taken)) ∙ told h
 
 returns-3 : tie.Need-returns-3
 returns-3 c =
     let h = c .before in
-    ap (λ (b : Bool). if b then known.Known else known.NoPort) (sym (c .if1 .left)) ∙ told h
+    ap ofPort (sym (c .if1 .left)) ∙ told h
 
 pub end-of-spec : {M : Type 1} → statement M
 end-of-spec =
