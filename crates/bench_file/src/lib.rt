@@ -369,16 +369,16 @@ pub fn line_of(text: &[u8], page: Page, row: usize) -> u64
     ensures { λ r. ⌜ r ≡ lineOf page row (now (text .entry)) ⌝ }
 {
     let mut left = row;
-    let mut lines: u64 = 0;
+    let mut number: u64 = 0;
     let mut at = mark_length(text);
     while at < text.len() {
         let end = bench_words::line_end(text, at);
         let line = bench_lines::read_line(&text[at..end]);
-        lines += 1;
+        number += 1;
         let said = line.said;
         let on = is_on(page, said);
         if is_it(on, left) {
-            return lines;
+            return number;
         }
         left = left_after(on, left);
         at = next_line(text, end);

@@ -12,11 +12,11 @@ use Rattle.bench_file.proofs.line_of.Statement.{statement}
 use Rattle.bench_file.proofs.line_of.Tie as tie
 
 abbrev Inv-loop : tie.InvT-loop
-Inv-loop text page row left₀ lines₀ at₀ left lines at =
-    (at ≤ length text) × (lines ≤ at) × (lineIn page (linesOf (drop at text)) lines left ≡ lineOf page row text)
+Inv-loop text page row left₀ number₀ at₀ left number at =
+    (at ≤ length text) × (number ≤ at) × (lineIn page (linesOf (drop at text)) number left ≡ lineOf page row text)
 
 abbrev μ-loop : tie.MeasureT-loop
-μ-loop text page row left₀ lines₀ at₀ left lines at = length text - at
+μ-loop text page row left₀ number₀ at₀ left number at = length text - at
 
 mark-length-requires : tie.Need-mark-length-requires Inv-loop μ-loop
 mark-length-requires c κs = search needs
@@ -41,10 +41,10 @@ part-read-line-end c =
 read-line-requires : tie.Need-read-line-requires Inv-loop μ-loop
 read-line-requires c κs = search needs
 
-add-lines : tie.Need-add-lines Inv-loop μ-loop
-add-lines c =
+add-number : tie.Need-add-number Inv-loop μ-loop
+add-number c =
     let l = (c .before .before .before .before .loop) in
-    let few : l .lines < length ((c .before .before .before .before .before .before .before) .args .text .now) = omega (arith, l .inv .1, (c .before .before .before .loop-test) .taken) in
+    let few : l .number < length ((c .before .before .before .before .before .before .before) .args .text .now) = omega (arith, l .inv .1, (c .before .before .before .loop-test) .taken) in
     omega (arith, few, (c .before .before .before .before .before .before .before) .good .0 .0)
 
 is-on-requires : tie.Need-is-on-requires Inv-loop μ-loop
@@ -63,7 +63,7 @@ returns c =
     let rest = linesOf (drop (nextLine (length text) (end .result)) text) in
     let on = (c .before .before .is-on) .ensures ∙ ap (λ r. isOn (a .page) (r .said)) ((c .before .before .before .read-line) .ensures) in
     let here = lines-at text (l .at) (end .result) (end .ensures) ((c .before .before .before .before .before .before .loop-test) .taken) in
-    sym (ap (λ ls. lineIn (a .page) ls (l .lines) (l .left)) here ∙ row-here (a .page) line rest (l .lines) (l .left) ((c .before .before .is-on) .result) on (sym ((c .before .is-it) .ensures) ∙ (c .if1) .taken)) ∙ l .inv .2
+    sym (ap (λ ls. lineIn (a .page) ls (l .number) (l .left)) here ∙ row-here (a .page) line rest (l .number) (l .left) ((c .before .before .is-on) .result) on (sym ((c .before .is-it) .ensures) ∙ (c .if1) .taken)) ∙ l .inv .2
 
 left-after-requires : tie.Need-left-after-requires Inv-loop μ-loop
 left-after-requires c κs = search needs
@@ -90,7 +90,7 @@ loop-again c =
     let here = lines-at text (l .at) (end .result) (end .ensures) ((c .before .before .before .before .before .before .before .before .loop-test) .taken) in
     let further = next-further text (l .at) (end .result) (end .ensures) ((c .before .before .before .before .before .before .before .before .loop-test) .taken) in
     let within = next-within text (l .at) (end .result) (end .ensures) ((c .before .before .before .before .before .before .before .before .loop-test) .taken) in
-    let goes = ap (λ ls. lineIn (a .page) ls (l .lines) (l .left)) here ∙ row-later (a .page) line rest (l .lines) (l .left) ((c .before .before .before .before .is-on) .result) on (sym ((c .before .before .before .is-it) .ensures) ∙ (c .before .before .if1) .left) in
+    let goes = ap (λ ls. lineIn (a .page) ls (l .number) (l .left)) here ∙ row-later (a .page) line rest (l .number) (l .left) ((c .before .before .before .before .is-on) .result) on (sym ((c .before .before .before .is-it) .ensures) ∙ (c .before .before .if1) .left) in
     (omega (arith, (c .next-line) .ensures, within), omega (arith, (c .next-line) .ensures, further, l .inv .1), (rw ((c .next-line) .ensures, (c .before .left-after) .ensures)) ∙ sym goes ∙ l .inv .2)
 
 returns-2 : tie.Need-returns-2 Inv-loop μ-loop
@@ -114,7 +114,7 @@ line-of-spec =
     part-read-line-start
     part-read-line-end
     read-line-requires
-    add-lines
+    add-number
     is-on-requires
     is-it-requires
     returns
