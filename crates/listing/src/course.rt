@@ -48,8 +48,10 @@ pub(crate) fn start() -> Course {
     }
 }
 
-pub(crate) fn ended(course: Course, status: u64) -> Course {
+// What waited was written, or could not be: then the status says so.
+pub(crate) fn written(course: Course, status: u64) -> Course {
     let mut c = course;
+    c.held = 0;
     c.status = status;
     c
 }

@@ -2,29 +2,16 @@
 use crate::course::Settings;
 use crate::say;
 
-// How many bytes were read, and whether that is the whole file. Where it is not, it was said.
-pub(crate) struct Input {
-    pub length: usize,
-    pub whole: bool,
-}
-
-fn failed() -> Input {
-    Input {
-        length: 0,
-        whole: false,
-    }
-}
-
 // The name of the file, from the first argument: `-`, or none at all, is standard input. An empty one is the name of no file.
 pub(crate) fn name(path: &mut [u8]) -> usize {
-    if os::arg_count() < 2 {
-        if 0 < path.len() {
-            path[0] = b'-';
-            return 1;
-        }
+    if 1 < os::arg_count() {
+        return os::arg(1, path);
+    }
+    if path.len() == 0 {
         return 0;
     }
-    os::arg(1, path)
+    path[0] = b'-';
+    1
 }
 
 fn is_standard(path: &[u8]) -> bool {
@@ -34,43 +21,37 @@ fn is_standard(path: &[u8]) -> bool {
     path[0] == b'-'
 }
 
-pub(crate) fn read(path: &[u8], text: &mut [u8]) -> Input {
+// How many bytes there are; as many as the buffer has where the file cannot be read or is too long, and then it was said.
+pub(crate) fn read(path: &[u8], text: &mut [u8]) -> usize {
     if is_standard(path) {
         return read_from(libc::STDIN_FILENO, path, text);
     }
     let fd = os::open_read(path);
     if fd < 0 {
         os::fail(path);
-        return failed();
+        return text.len();
     }
-    let input = read_from(fd, path, text);
+    let length = read_from(fd, path, text);
     libc::close(fd);
-    input
+    length
 }
 
-// A file that fills the buffer is too long.
-fn read_from(fd: i32, path: &[u8], text: &mut [u8]) -> Input {
+fn read_from(fd: i32, path: &[u8], text: &mut [u8]) -> usize {
     let mut length = 0;
     while length < text.len() {
         let got = libc::read(fd, &mut text[length..]);
         if got < 0 {
             os::fail(path);
-            return failed();
+            return text.len();
         }
-        let more = got as usize;
+        let more = io::count(got, &text[length..]);
         if more == 0 {
-            return Input {
-                length,
-                whole: true,
-            };
-        }
-        if text.len() - length < more {
-            return failed();
+            return length;
         }
         length += more;
     }
     say::too_long(path);
-    failed()
+    length
 }
 
 // Whether the second argument, the command's own, has this letter.

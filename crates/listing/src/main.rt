@@ -3,6 +3,7 @@
 mod course;
 mod input;
 mod out;
+mod room;
 mod run;
 mod say;
 mod steps;
@@ -12,14 +13,17 @@ mod why;
 fn main() {
     let mut path = io::buffer();
     let length = input::name(&mut path);
-    let mut text = [0u8; 4194304];
-    let input = input::read(&path[..length], &mut text);
-    if !input.whole {
-        course::tell(course::WRONG);
-        return;
+    if length <= path.len() {
+        course::tell(file(&path[0..length]));
     }
-    let end = input.length;
-    if end < text.len() {
-        course::tell(run::file(&path[..length], &text[..end]));
+}
+
+// How it ended.
+fn file(path: &[u8]) -> u64 {
+    let mut text = room::bytes();
+    let length = input::read(path, &mut text);
+    if length < text.len() {
+        return run::file(path, &text[0..length]);
     }
+    course::WRONG
 }

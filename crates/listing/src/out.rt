@@ -23,13 +23,11 @@ fn write(bytes: &[u8], status: u64) -> u64 {
 // Writes what waits. Once that failed, nothing more is written.
 pub(crate) fn flush(out: &[u8], c: Course) -> Course {
     let held = c.held;
-    if out.len() < held {
-        return c;
+    if held <= out.len() {
+        let status = write(&out[0..held], c.status);
+        return course::written(c, status);
     }
-    let status = write(&out[..held], c.status);
-    let mut after = course::ended(c, status);
-    after.held = 0;
-    after
+    c
 }
 
 fn byte(out: &mut [u8], c: Course, b: u8) -> Course {
@@ -70,10 +68,10 @@ pub(crate) fn bits(out: &mut [u8], c: Course, word: u64) -> Course {
 // A text without the dots that fill it up to 32 bytes.
 pub(crate) fn padded(out: &mut [u8], c: Course, filled: [u8; 32]) -> Course {
     let length = bench_file::text_length(filled);
-    if 32 < length {
-        return c;
+    if length <= 32 {
+        return text(out, c, &filled[0..length]);
     }
-    text(out, c, &filled[..length])
+    c
 }
 
 // A time in decimal: at most six places after the point, and no zeros at their end.
@@ -83,13 +81,16 @@ pub(crate) fn decimal(out: &mut [u8], c: Course, time: f64) -> Course {
     if read.micros == 0 {
         return after;
     }
-    let places = six(read.micros);
-    let end = significant(places);
-    if 6 < end {
-        return after;
-    }
     let point = text(out, after, b".");
-    text(out, point, &places[..end])
+    fraction(out, point, six(read.micros))
+}
+
+fn fraction(out: &mut [u8], c: Course, places: [u8; 6]) -> Course {
+    let end = significant(places);
+    if end <= 6 {
+        return text(out, c, &places[0..end]);
+    }
+    c
 }
 
 // The six digits of a number below 1,000,000.

@@ -4,6 +4,7 @@ use crate::course::Course;
 use crate::course::Settings;
 use crate::input;
 use crate::out;
+use crate::room;
 use crate::say;
 use crate::steps;
 use crate::warn;
@@ -36,8 +37,8 @@ pub(crate) fn file(path: &[u8], text: &[u8]) -> u64 {
     let mut models = [0u64; 1280];
     let mut connectors = [0u64; 2048];
     let mut couplings = [0u64; 3072];
-    let mut services = [0u64; 65536];
-    let mut actions = [0u64; 114688];
+    let mut services = room::services();
+    let mut actions = room::actions();
     let reading = bench_file::read(
         text,
         &mut models,
@@ -84,7 +85,7 @@ fn posted(
     let inner = &couplings[0..used(counts.couplings, 6, couplings)];
     let times = &services[0..used(counts.services, 1, services)];
     let orders = &actions[0..used(counts.actions, 7, actions)];
-    let mut state = [0u64; 17286];
+    let mut state = room::state();
     let settings = input::settings(counts.rows);
     match simulation::post(rows, links, inner, &mut state) {
         Answer::Refused(refusal) => refused_table(path, text, rows, links, inner, refusal),
@@ -93,9 +94,29 @@ fn posted(
                 say::omitted(capacities::omitted(rows));
                 warn::ends(path, text, rows, links, inner, orders);
             }
-            begin(path, text, rows, &mut state, times, orders, settings)
+            let status = begin(path, text, rows, &mut state, times, orders, settings);
+            ran(path, text, &state, times.len(), settings, status)
         }
     }
+}
+
+// A file that was run to its end may have service times left over.
+fn ran(
+    path: &[u8],
+    text: &[u8],
+    state: &[u64],
+    given: usize,
+    settings: Settings,
+    status: u64,
+) -> u64 {
+    if status != course::RAN {
+        return status;
+    }
+    if settings.quiet {
+        return status;
+    }
+    left_over(path, text, state, given);
+    status
 }
 
 fn refused_table(
@@ -146,30 +167,47 @@ fn begin(
     actions: &[u64],
     settings: Settings,
 ) -> u64 {
-    let mut times = [0f64; 65536];
+    let mut times = room::times();
     lay(&mut times, bits);
-    let mut buffer = io::large_buffer();
-    let mut c = first_line(&mut buffer, settings);
     if bits.len() <= 65536 {
-        c = act(
+        return listed(
             path,
             text,
             models,
             state,
             &times[0..bits.len()],
             actions,
-            &mut buffer,
-            c,
             settings,
         );
     }
-    let after = out::flush(&buffer, c);
-    if after.status == course::RAN {
-        if !settings.quiet {
-            left_over(path, text, state, bits.len());
-        }
-    }
-    after.status
+    course::WRONG
+}
+
+fn listed(
+    path: &[u8],
+    text: &[u8],
+    models: &[u64],
+    state: &mut [u64],
+    services: &[f64],
+    actions: &[u64],
+    settings: Settings,
+) -> u64 {
+    let mut buffer = io::large_buffer();
+    let mut rows = [0u64; 1536];
+    let first = first_line(&mut buffer, settings);
+    let c = act(
+        path,
+        text,
+        models,
+        state,
+        services,
+        actions,
+        &mut rows,
+        &mut buffer,
+        first,
+        settings,
+    );
+    out::flush(&buffer, c).status
 }
 
 // Where the changing part of a state begins. It is behind the table, whose rows the first three words count.
@@ -211,25 +249,29 @@ fn act(
     state: &mut [u64],
     services: &[f64],
     actions: &[u64],
+    rows: &mut [u64],
     buffer: &mut [u8],
     first: Course,
     settings: Settings,
 ) -> Course {
-    let mut rows = [0u64; 1536];
     let mut c = first;
     let mut at = 0;
     let mut row = 0;
     while 7 <= actions.len() - at {
-        c = action(
+        let cells = &actions[at..at + 7];
+        c = one(
+            path,
+            text,
+            models,
             state,
             services,
-            &actions[at..at + 7],
-            &mut rows,
+            cells,
+            rows,
             buffer,
-            course::busy(c),
+            row,
+            c,
             settings,
         );
-        c = acted(path, text, models, state, buffer, row, c, settings);
         if c.status != course::RAN {
             return c;
         }
@@ -237,6 +279,32 @@ fn act(
         row += 1;
     }
     c
+}
+
+// One action, and what is said after it.
+fn one(
+    path: &[u8],
+    text: &[u8],
+    models: &[u64],
+    state: &mut [u64],
+    services: &[f64],
+    cells: &[u64],
+    rows: &mut [u64],
+    buffer: &mut [u8],
+    row: usize,
+    c: Course,
+    settings: Settings,
+) -> Course {
+    let done = action(
+        state,
+        services,
+        cells,
+        rows,
+        buffer,
+        course::busy(c),
+        settings,
+    );
+    acted(path, text, models, state, buffer, row, done, settings)
 }
 
 // What is said after an action: that it was refused, or what is held where it ended idle.
@@ -267,12 +335,16 @@ fn acted(
 
 // How something ended by a refusal: its number and name.
 fn refused(buffer: &mut [u8], c: Course) -> Course {
+    let begun = out::text(buffer, c, b"refused ");
+    let named = named(buffer, begun);
+    out::text(buffer, named, b"\n")
+}
+
+fn named(buffer: &mut [u8], c: Course) -> Course {
     let refusal = c.refusal;
-    let mut after = out::text(buffer, c, b"refused ");
-    after = out::number(buffer, after, rules::number(refusal) as u64);
-    after = out::text(buffer, after, b" ");
-    after = out::padded(buffer, after, say::name(refusal));
-    out::text(buffer, after, b"\n")
+    let number = out::number(buffer, c, rules::number(refusal) as u64);
+    let begun = out::text(buffer, number, b" ");
+    out::padded(buffer, begun, say::name(refusal))
 }
 
 // One action, a row of seven words.

@@ -218,7 +218,7 @@ fn decimal(time: f64) {
     let end = out::significant(places);
     if end <= 6 {
         text(b".");
-        text(&places[..end]);
+        text(&places[0..end]);
     }
 }
 

@@ -26,24 +26,36 @@ fn active(state: &[u64]) -> u64 {
     }
 }
 
-// A message, as a row of six words.
+// `1:2`
+fn pair(out: &mut [u8], c: Course, id: u64, port: u64) -> Course {
+    let first = out::number(out, c, id);
+    let colon = out::text(out, first, b":");
+    out::number(out, colon, port)
+}
+
+// A message, as a row of six words: where it comes from and goes to.
+fn ways(out: &mut [u8], c: Course, row: &[u64]) -> Course {
+    let source = pair(out, c, words::word_at(row, 0), words::word_at(row, 1));
+    let to = out::text(out, source, b" to ");
+    pair(out, to, words::word_at(row, 2), words::word_at(row, 3))
+}
+
 fn message(out: &mut [u8], c: Course, row: &[u64]) -> Course {
-    if row.len() < 6 {
-        return c;
-    }
-    let mut after = out::text(out, c, b"  ");
-    after = out::number(out, after, row[0]);
-    after = out::text(out, after, b":");
-    after = out::number(out, after, row[1]);
-    after = out::text(out, after, b" to ");
-    after = out::number(out, after, row[2]);
-    after = out::text(out, after, b":");
-    after = out::number(out, after, row[3]);
-    after = out::text(out, after, b" time ");
-    after = out::bits(out, after, row[4]);
-    after = out::text(out, after, b" content ");
-    after = out::number(out, after, row[5]);
-    out::text(out, after, b"\n")
+    let begun = out::text(out, c, b"  ");
+    let gone = ways(out, begun, row);
+    let stamped = stamp(out, gone, words::word_at(row, 4));
+    content(out, stamped, words::word_at(row, 5))
+}
+
+fn stamp(out: &mut [u8], c: Course, bits: u64) -> Course {
+    let begun = out::text(out, c, b" time ");
+    out::bits(out, begun, bits)
+}
+
+fn content(out: &mut [u8], c: Course, content: u64) -> Course {
+    let named = out::text(out, c, b" content ");
+    let told = out::number(out, named, content);
+    out::text(out, told, b"\n")
 }
 
 // The rows that a step laid down.
@@ -62,18 +74,35 @@ fn rows_of(out: &mut [u8], c: Course, rows: &[u64], written: usize) -> Course {
     after
 }
 
+fn clock_of(out: &mut [u8], c: Course, settings: Settings, clock: f64) -> Course {
+    let bits = out::bits(out, c, times::bits_of(clock));
+    if !settings.decimal {
+        return bits;
+    }
+    let beside = out::text(out, bits, b" ");
+    out::decimal(out, beside, clock)
+}
+
 // The line of a step: its number, the clock, how many messages are active.
 fn line(out: &mut [u8], c: Course, settings: Settings, clock: f64, active: u64) -> Course {
-    let mut after = out::number(out, c, c.number);
-    after = out::text(out, after, b" ");
-    after = out::bits(out, after, times::bits_of(clock));
-    after = out::text(out, after, b" ");
-    if settings.decimal {
-        after = out::decimal(out, after, clock);
-        after = out::text(out, after, b" ");
+    let number = out::number(out, c, c.number);
+    let begun = out::text(out, number, b" ");
+    let stamped = clock_of(out, begun, settings, clock);
+    counted(out, stamped, active)
+}
+
+fn counted(out: &mut [u8], c: Course, active: u64) -> Course {
+    let begun = out::text(out, c, b" ");
+    let told = out::number(out, begun, active);
+    out::text(out, told, b"\n")
+}
+
+// The rows of a step, where they are asked for.
+fn shown(out: &mut [u8], c: Course, settings: Settings, rows: &[u64], written: usize) -> Course {
+    if !settings.rows {
+        return c;
     }
-    after = out::number(out, after, active);
-    out::text(out, after, b"\n")
+    rows_of(out, c, rows, written)
 }
 
 // What a run of one step leaves: its line and rows, or the refusal.
@@ -89,11 +118,8 @@ fn after(
     if let End::Refused(refusal) = end {
         return course::refused(c, refusal);
     }
-    let count = active(state);
-    let mut next = line(out, c, settings, clock(state), count);
-    if settings.rows {
-        next = rows_of(out, next, rows, report.written);
-    }
+    let told = line(out, c, settings, clock(state), active(state));
+    let next = shown(out, told, settings, rows, report.written);
     course::stepped(next, is_reached(end))
 }
 

@@ -226,6 +226,16 @@ fn is_mark(changing: &[u64], place: usize) -> bool {
     words::word_at(changing, place) != times::bits_of(times::never())
 }
 
+fn more(count: u64, complete: bool) -> u64 {
+    if complete {
+        return count;
+    }
+    if count < 64 {
+        return count + 1;
+    }
+    count
+}
+
 // How many of a stopwatch's jobs lack a start or a stop.
 fn incomplete(changing: &[u64], begin: usize, held: u64) -> u64 {
     let mut count = 0;
@@ -234,9 +244,7 @@ fn incomplete(changing: &[u64], begin: usize, held: u64) -> u64 {
         if held <= at {
             return count;
         }
-        if !is_complete(changing, begin, at as usize) {
-            count += 1;
-        }
+        count = more(count, is_complete(changing, begin, at as usize));
         at += 1;
     }
     count
@@ -245,6 +253,9 @@ fn incomplete(changing: &[u64], begin: usize, held: u64) -> u64 {
 // The marks of a job stand 64 and 128 words behind its name.
 fn is_complete(changing: &[u64], begin: usize, at: usize) -> bool {
     if changing.len() <= begin {
+        return true;
+    }
+    if 64 <= at {
         return true;
     }
     if !is_mark(changing, begin + 64 + at) {

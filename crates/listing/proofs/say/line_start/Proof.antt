@@ -1,3 +1,54 @@
--- stub. Assumes nothing.
+-- `line_start`: line by line. Assumes nothing.
+use Prim.Native.Nat.{_≤_}
+use borrow.Author.Needs.{needs}
 use Rattle.listing.proofs.say.line_start.Statement.{statement}
 use Rattle.listing.proofs.say.line_start.Tie as tie
+
+abbrev Inv-loop : tie.InvT-loop
+Inv-loop text line left₀ at₀ left at = left ≤ line
+
+abbrev μ-loop : tie.MeasureT-loop
+μ-loop text line left₀ at₀ left at = left
+
+mark-length-requires : tie.Need-mark-length-requires Inv-loop μ-loop
+mark-length-requires c κs = search needs
+
+loop-holds : tie.Need-loop-holds Inv-loop μ-loop
+loop-holds c = search needs
+
+line-end-requires : tie.Need-line-end-requires Inv-loop μ-loop
+line-end-requires c κs = search needs
+
+returns : tie.Need-returns Inv-loop μ-loop
+returns c = search needs
+
+add-at : tie.Need-add-at Inv-loop μ-loop
+add-at c = search needs
+
+sub-left : tie.Need-sub-left Inv-loop μ-loop
+sub-left c = search needs
+
+loop-less : tie.Need-loop-less Inv-loop μ-loop
+loop-less c = search needs
+
+loop-again : tie.Need-loop-again Inv-loop μ-loop
+loop-again c = search needs
+
+returns-2 : tie.Need-returns-2 Inv-loop μ-loop
+returns-2 c = search needs
+
+pub line-start-spec : {M : Type 1} → statement M
+line-start-spec =
+    tie.close
+    (tie.spec
+    Inv-loop
+    μ-loop
+    mark-length-requires
+    loop-holds
+    line-end-requires
+    returns
+    add-at
+    sub-left
+    loop-less
+    loop-again
+    returns-2)
