@@ -5,7 +5,7 @@ use Rattle.listing.proofs.warn.incomplete.Statement.{statement}
 use Rattle.listing.proofs.warn.incomplete.Tie as tie
 
 abbrev Inv-loop : tie.InvT-loop
-Inv-loop changing begin held count₀ at₀ count at = (count ≤ at) × (at ≤ 64)
+Inv-loop changing begin held count₀ at₀ count at = at ≤ 64
 
 abbrev μ-loop : tie.MeasureT-loop
 μ-loop changing begin held count₀ at₀ count at = 64 - at
@@ -19,8 +19,8 @@ returns c = search needs
 is-complete-requires : tie.Need-is-complete-requires Inv-loop μ-loop
 is-complete-requires c κs = search needs
 
-add-count : tie.Need-add-count Inv-loop μ-loop
-add-count c = search needs
+more-requires : tie.Need-more-requires Inv-loop μ-loop
+more-requires c κs = search needs
 
 add-at : tie.Need-add-at Inv-loop μ-loop
 add-at c = search needs
@@ -43,7 +43,7 @@ incomplete-spec =
     loop-holds
     returns
     is-complete-requires
-    add-count
+    more-requires
     add-at
     loop-less
     loop-again
