@@ -54,11 +54,11 @@ fn or_word(word: Word) {
 fn explained(wanted: Wanted) {
     match wanted {
         Wanted::AnItem => text(
-            b" (processor, batcher, stopwatch, coupled, connector, input, output, internal, service, inject_input, step_n, step_until, step_until_idle, rows)",
+            b" (an item is processor, batcher, stopwatch, coupled, connector, input, output, internal, service, inject_input, step_n, step_until, step_until_idle or rows)",
         ),
         Wanted::NoMore => {
             text(
-                b" (128 models, 512 connectors, 512 couplings, 65536 service times, 16384 actions)",
+                b" (at most 128 models, 512 connectors, 512 couplings, 65536 service times, 16384 actions)",
             )
         }
         Wanted::AValue(value) => explained_value(value),
@@ -69,7 +69,7 @@ fn explained(wanted: Wanted) {
 fn explained_value(value: Value) {
     if let Value::ATime = value {
         text(
-            b" (a whole number up to 9007199254740992; digits, a point, digits, 15 in all at most; 0x and 16 hex digits)",
+            b" (a time is a whole number up to 9007199254740992, digits with a point among them, 15 at most, or 0x and 16 hex digits)",
         );
     }
 }
@@ -146,9 +146,9 @@ pub(crate) fn wrong_line(path: &[u8], file: &[u8], line: u64, column: usize, exp
     let what = expected.what;
     or_word(or);
     padded(bench_file::wanted_text(what));
-    explained(what);
     text(b", found ");
     found_in(file, line, column);
+    explained(what);
     text(b"\n");
 }
 

@@ -17,13 +17,24 @@ pub(crate) fn clock(state: &[u64]) -> f64 {
     }
 }
 
-// How many messages are active.
-fn active(state: &[u64]) -> u64 {
-    let mut rows = [0u64; 1536];
-    match simulation::get_messages(state, &mut rows) {
+fn counted_in(listing: Listing) -> u64 {
+    match listing {
         Listing::Count(count) => count as u64,
         Listing::Refused(_) => 0,
     }
+}
+
+// How many messages are active. The rows of the step are lent for them where they are not to be shown.
+fn active(state: &[u64], rows: &mut [u64], settings: Settings) -> u64 {
+    if settings.rows {
+        return active_beside(state);
+    }
+    counted_in(simulation::get_messages(state, rows))
+}
+
+fn active_beside(state: &[u64]) -> u64 {
+    let mut rows = [0u64; 1536];
+    counted_in(simulation::get_messages(state, &mut rows))
 }
 
 // `1:2`
@@ -108,7 +119,7 @@ fn shown(out: &mut [u8], c: Course, settings: Settings, rows: &[u64], written: u
 // What a run of one step leaves: its line and rows, or the refusal.
 fn after(
     state: &[u64],
-    rows: &[u64],
+    rows: &mut [u64],
     out: &mut [u8],
     c: Course,
     settings: Settings,
@@ -118,7 +129,8 @@ fn after(
     if let End::Refused(refusal) = end {
         return course::refused(c, refusal);
     }
-    let told = line(out, c, settings, clock(state), active(state));
+    let count = active(state, rows, settings);
+    let told = line(out, c, settings, clock(state), count);
     let next = shown(out, told, settings, rows, report.written);
     course::stepped(next, is_reached(end))
 }
