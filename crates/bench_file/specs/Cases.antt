@@ -1,7 +1,8 @@
 -- Files computed: what is read, where it stands, and which line is wrong. Assumes nothing.
 use mathlib.Core.Path.{_≡_, refl}
 use mathlib.Core.Bool.{true, false}
-use mathlib.Core.List.{[], _∷_, _++_}
+use Prim.Native.Nat.{ℕ}
+use mathlib.Core.List.{List, [], _∷_, _++_}
 use lib.ListN.{replicate}
 use lib.Ieee.{ofInt, toBits}
 use Rattle.bench_words.specs.Splitting.{linesFrom, wordsFrom, wordAt}
@@ -11,12 +12,15 @@ use Rattle.bench_lines.specs.declared.Value.the-variants.{TheEnd, AnId}
 use Rattle.bench_lines.specs.declared.Wanted.the-variants.{AnItem, AValue, NoMore}
 use Rattle.bench_lines.specs.Reading.{only, readLine}
 use Rattle.bench_file.specs.declared.Reading.the-variants.{Read, Wrong}
-use Rattle.bench_file.specs.declared.Page.the-variants.{Models, Services}
+use Rattle.bench_file.specs.declared.Page.the-variants.{Models, Connectors, Couplings, Services, Actions}
 use Rattle.bench_file.specs.Filing.{Pages, pagesAt, ending, readFile, lineOf}
 
 -- what is lent: room for two models and a word more, one connector, no coupling, three service times, two actions. All of it holds 7
 abbrev lent : Pages
 lent = pagesAt (replicate 21 7) (replicate 4 7) (replicate 5 7) (replicate 3 7) (replicate 14 7)
+
+abbrev onEach : List ℕ
+onEach = bytes "# each\ncoupled 1\nconnector 1:1 to 2:1\ninput 1:1 to 2:1\n\nservice 1\nrows\nstep_n 1"
 
 pub record Table : Type 0 where
   -- the rows from the start on, and 7 beyond
@@ -43,7 +47,9 @@ pub record Table : Type 0 where
   pub second-service : lineOf Services 1 (bytes "\nservice 1\nrows\nservice 2") ≡ 4
   pub no-third : lineOf Services 2 (bytes "\nservice 1\nrows\nservice 2") ≡ 0
   pub no-model : lineOf Models 0 (bytes "\nservice 1\nrows\nservice 2") ≡ 0
+  -- one row of each page, and the lines that are none
+  pub each-page : (lineOf Models 0 onEach ≡ 2) × (lineOf Connectors 0 onEach ≡ 3) × (lineOf Couplings 0 onEach ≡ 4) × (lineOf Services 0 onEach ≡ 6) × (lineOf Actions 0 onEach ≡ 8)
 
 pub cases : Table
 unfolding readFile lineOf linesFrom readLine wordsFrom wordAt same digitOf numeral numberOf hasBits timeOf ofInt toBits
-cases = record { bench = refl; empty = refl; wrong = refl; other-bytes = refl; nul-in-a-number = refl; no-room = refl; marked = refl; mark-alone = refl; half-a-mark = refl; mark-behind = refl; first-service = refl; second-service = refl; no-third = refl; no-model = refl }
+cases = record { bench = refl; empty = refl; wrong = refl; other-bytes = refl; nul-in-a-number = refl; no-room = refl; marked = refl; mark-alone = refl; half-a-mark = refl; mark-behind = refl; first-service = refl; second-service = refl; no-third = refl; no-model = refl; each-page = (refl, refl, refl, refl, refl) }

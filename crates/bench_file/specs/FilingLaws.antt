@@ -6,7 +6,7 @@ use mathlib.Core.List.{List, [], _∷_}
 use native.Mathlib.Omega.{arith}
 use native.Mathlib.Nat.{div-mul-le-self, mul-le-mul-right, suc-mul}
 use native.Mathlib.Numerals.{add-one}
-use borrow.Author.Tests.{ltb-true, ltb-false, leb-true}
+use borrow.Author.Tests.{ltb-true, ltb-false, leb-true, le-leb}
 use lib.Dec.{leb, ltb, eqb}
 use lib.ListN.{length, getD, set, take, drop, length-drop, drop-of-length-le}
 use lib.Seq.{drop-drop, paste, paste-suc}
@@ -19,7 +19,8 @@ use Rattle.bench_lines.specs.Reading.{readLine}
 use Rattle.bench_file.specs.declared.Counts.{Counts}
 use Rattle.bench_file.specs.declared.Reading.the-variants as Reading
 use Rattle.bench_file.specs.declared.Page.{Page}
-use Rattle.bench_file.specs.Filing.{Pages, Filing, nextLine, fileSaid, ending, readFrom, markSpan, isOn, leftAfter, lineIn}
+use Rattle.bench_file.specs.declared.Page.the-variants.{Models, Connectors, Couplings, Services, Actions, Flag}
+use Rattle.bench_file.specs.Filing.{Pages, Filing, nextLine, fileSaid, ending, readFrom, markSpan, bodyOf, samePage, isOn, leftAfter, lineIn}
 
 -- ---- a row that has room
 -- its words are there
@@ -89,3 +90,46 @@ mark-by n false u h = omega arith
 
 pub mark-within : (text : List ℕ) → markSpan text ≤ length text
 mark-within text = mark-by (length text) (leb 3 (length text)) (hold (eqb (getD text 0 0) 0xEF ∷ eqb (getD text 1 0) 0xBB ∷ eqb (getD text 2 0) 0xBF ∷ [])) refl
+
+-- a mark is passed over, whatever comes behind it
+pub marked : (text : List ℕ) → bodyOf (0xEF ∷ 0xBB ∷ 0xBF ∷ text) ≡ text
+marked text = rw (le-leb 3 (length (0xEF ∷ 0xBB ∷ 0xBF ∷ text)) (omega arith))
+
+-- ---- one page is no other
+pub page-is : (a b : Page) → samePage a b ≡ true → a ≡ b
+page-is Models Models h = refl
+page-is Models Connectors h = cc
+page-is Models Couplings h = cc
+page-is Models Services h = cc
+page-is Models Actions h = cc
+page-is Models Flag h = cc
+page-is Connectors Models h = cc
+page-is Connectors Connectors h = refl
+page-is Connectors Couplings h = cc
+page-is Connectors Services h = cc
+page-is Connectors Actions h = cc
+page-is Connectors Flag h = cc
+page-is Couplings Models h = cc
+page-is Couplings Connectors h = cc
+page-is Couplings Couplings h = refl
+page-is Couplings Services h = cc
+page-is Couplings Actions h = cc
+page-is Couplings Flag h = cc
+page-is Services Models h = cc
+page-is Services Connectors h = cc
+page-is Services Couplings h = cc
+page-is Services Services h = refl
+page-is Services Actions h = cc
+page-is Services Flag h = cc
+page-is Actions Models h = cc
+page-is Actions Connectors h = cc
+page-is Actions Couplings h = cc
+page-is Actions Services h = cc
+page-is Actions Actions h = refl
+page-is Actions Flag h = cc
+page-is Flag Models h = cc
+page-is Flag Connectors h = cc
+page-is Flag Couplings h = cc
+page-is Flag Services h = cc
+page-is Flag Actions h = cc
+page-is Flag Flag h = refl

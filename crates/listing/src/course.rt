@@ -26,8 +26,9 @@ pub(crate) struct Course {
     pub refusal: Refusal,
     // Whether the last step of a `step_until` reached its time.
     pub reached: bool,
-    // Whether the last action was a `step_until_idle` that ended idle.
+    // Whether the last run ended idle, and the row of its action, counted from 1.
     pub idle: bool,
+    pub idle_row: usize,
 }
 
 // What a person asked for: the messages' rows, clocks in decimal, no warnings.
@@ -45,6 +46,7 @@ pub(crate) fn start() -> Course {
         refusal: Refusal::Idle,
         reached: false,
         idle: false,
+        idle_row: 0,
     }
 }
 
@@ -63,14 +65,29 @@ pub(crate) fn refused(c: Course, refusal: Refusal) -> Course {
         status: REFUSED,
         refusal,
         reached: false,
-        idle: false,
+        idle: is_idle(refusal),
+        idle_row: c.idle_row,
     }
 }
 
-// An action begins.
+// Refusal 12: nothing is left to do.
+pub(crate) fn is_idle(refusal: Refusal) -> bool {
+    rules::number(refusal) == rules::number(Refusal::Idle)
+}
+
+// A run begins.
 pub(crate) fn busy(course: Course) -> Course {
     let mut c = course;
     c.idle = false;
+    c
+}
+
+// The action of a row, counted from 0, is done.
+pub(crate) fn acted(course: Course, row: usize) -> Course {
+    let mut c = course;
+    if row < usize::MAX {
+        c.idle_row = row + 1;
+    }
     c
 }
 

@@ -19,6 +19,13 @@ use times::TimeOf;
 ghost use Prim.Native.Nat.{_≤_};
 ghost use lib.ListN.{length};
 
+// The first word of an action's row. The fourth kind is step_until_idle.
+pub(crate) const INJECT: u64 = 1;
+
+const STEP_N: u64 = 2;
+
+const STEP_UNTIL: u64 = 3;
+
 // How many words the rows of a page take.
 fn used(rows: usize, width: usize, page: &[u64]) -> usize
     ensures { λ r. ⌜ r ≤ length (now (page .entry)) ⌝ }
@@ -94,29 +101,25 @@ fn posted(
                 say::omitted(capacities::omitted(rows));
                 warn::ends(path, text, rows, links, inner, orders);
             }
-            let status = begin(path, text, rows, &mut state, times, orders, settings);
-            ran(path, text, &state, times.len(), settings, status)
+            let c = begin(path, text, &mut state, times, orders, settings);
+            if !settings.quiet {
+                ran(path, text, rows, &state, times.len(), c);
+            }
+            c.status
         }
     }
 }
 
-// A file that was run to its end may have service times left over.
-fn ran(
-    path: &[u8],
-    text: &[u8],
-    state: &[u64],
-    given: usize,
-    settings: Settings,
-    status: u64,
-) -> u64 {
-    if status != course::RAN {
-        return status;
+// What is left where a file was run to its end, and what is held where its last run ended idle.
+fn ran(path: &[u8], text: &[u8], models: &[u64], state: &[u64], given: usize, c: Course) {
+    if c.status == course::RAN {
+        left_over(path, text, state, given);
     }
-    if settings.quiet {
-        return status;
+    if c.idle {
+        if 0 < c.idle_row {
+            still_held(path, text, models, state, c.idle_row - 1);
+        }
     }
-    left_over(path, text, state, given);
-    status
 }
 
 fn refused_table(
@@ -130,10 +133,12 @@ fn refused_table(
     let mut buffer = io::buffer();
     let c = refused(&mut buffer, course::refused(course::start(), refusal));
     let after = out::flush(&buffer, c);
-    why::place(path, text, table::intake(models, connectors, couplings));
+    let reason = reasons::reason_of(models, connectors, couplings);
+    let verdict = table::intake(models, connectors, couplings);
+    why::place(path, text, verdict, reason);
     say::refusal_of(c);
     say::text(b": ");
-    why::rule(text, reasons::reason_of(models, connectors, couplings));
+    why::rule(text, reason);
     say::text(b"\n");
     after.status
 }
@@ -161,44 +166,33 @@ fn first_line(buffer: &mut [u8], settings: Settings) -> Course {
 fn begin(
     path: &[u8],
     text: &[u8],
-    models: &[u64],
     state: &mut [u64],
     bits: &[u64],
     actions: &[u64],
     settings: Settings,
-) -> u64 {
+) -> Course {
     let mut times = room::times();
     lay(&mut times, bits);
     if bits.len() <= 65536 {
-        return listed(
-            path,
-            text,
-            models,
-            state,
-            &times[0..bits.len()],
-            actions,
-            settings,
-        );
+        return listed(path, text, state, &times[0..bits.len()], actions, settings);
     }
-    course::WRONG
+    course::start()
 }
 
 fn listed(
     path: &[u8],
     text: &[u8],
-    models: &[u64],
     state: &mut [u64],
     services: &[f64],
     actions: &[u64],
     settings: Settings,
-) -> u64 {
+) -> Course {
     let mut buffer = io::large_buffer();
     let mut rows = [0u64; 1536];
     let first = first_line(&mut buffer, settings);
     let c = act(
         path,
         text,
-        models,
         state,
         services,
         actions,
@@ -207,7 +201,7 @@ fn listed(
         first,
         settings,
     );
-    out::flush(&buffer, c).status
+    out::flush(&buffer, c)
 }
 
 // Where the changing part of a state begins. It is behind the table, whose rows the first three words count.
@@ -245,7 +239,6 @@ fn still_held(path: &[u8], text: &[u8], models: &[u64], state: &[u64], row: usiz
 fn act(
     path: &[u8],
     text: &[u8],
-    models: &[u64],
     state: &mut [u64],
     services: &[f64],
     actions: &[u64],
@@ -262,7 +255,6 @@ fn act(
         c = one(
             path,
             text,
-            models,
             state,
             services,
             cells,
@@ -281,11 +273,10 @@ fn act(
     c
 }
 
-// One action, and what is said after it.
+// One action, and what is said where it is refused.
 fn one(
     path: &[u8],
     text: &[u8],
-    models: &[u64],
     state: &mut [u64],
     services: &[f64],
     cells: &[u64],
@@ -295,42 +286,39 @@ fn one(
     c: Course,
     settings: Settings,
 ) -> Course {
-    let done = action(
+    let done = action(state, services, cells, rows, buffer, c, settings);
+    acted(
+        path,
+        text,
         state,
-        services,
-        cells,
-        rows,
         buffer,
-        course::busy(c),
-        settings,
-    );
-    acted(path, text, models, state, buffer, row, done, settings)
+        cells,
+        row,
+        course::acted(done, row),
+    )
 }
 
-// What is said after an action: that it was refused, or what is held where it ended idle.
 fn acted(
     path: &[u8],
     text: &[u8],
-    models: &[u64],
     state: &[u64],
     buffer: &mut [u8],
+    cells: &[u64],
     row: usize,
     c: Course,
-    settings: Settings,
 ) -> Course {
-    if c.status == course::REFUSED {
-        let told = refused(buffer, c);
-        let after = out::flush(buffer, told);
-        say::place(path, bench_file::line_of(text, Page::Actions, row));
-        say::refused(c, steps::clock(state));
-        return after;
+    if c.status != course::REFUSED {
+        return c;
     }
-    if c.idle {
-        if !settings.quiet {
-            still_held(path, text, models, state, row);
-        }
-    }
-    c
+    let told = refused(buffer, c);
+    let after = out::flush(buffer, told);
+    say::place(path, bench_file::line_of(text, Page::Actions, row));
+    say::refused(c, is_injection(cells), steps::clock(state));
+    after
+}
+
+fn is_injection(cells: &[u64]) -> bool {
+    words::word_at(cells, 0) == INJECT
 }
 
 // How something ended by a refusal: its number and name.
@@ -361,13 +349,37 @@ fn action(
         return c;
     }
     let what = row[0];
-    if what == 1 {
+    if what == INJECT {
         return inject(state, message_of(row), c);
     }
-    if what == 2 {
+    run(
+        state,
+        services,
+        row,
+        rows,
+        buffer,
+        course::busy(c),
+        settings,
+    )
+}
+
+fn run(
+    state: &mut [u64],
+    services: &[f64],
+    row: &[u64],
+    rows: &mut [u64],
+    buffer: &mut [u8],
+    c: Course,
+    settings: Settings,
+) -> Course {
+    if row.len() < 7 {
+        return c;
+    }
+    let what = row[0];
+    if what == STEP_N {
         return steps::count(state, services, row[1], rows, buffer, c, settings);
     }
-    if what == 3 {
+    if what == STEP_UNTIL {
         return steps::until(
             state,
             services,

@@ -82,6 +82,9 @@ fn byte(b: u8) {
     if b'~' < b {
         return escaped(b);
     }
+    if b == b'\\' {
+        return escaped(b);
+    }
     text(&[b]);
 }
 
@@ -222,10 +225,14 @@ fn decimal(time: f64) {
     }
 }
 
-// An action that was refused, and where the run stood.
-pub(crate) fn refused(c: Course, clock: f64) {
+// An action that was refused, and where the run stood. An injection is made before the step.
+pub(crate) fn refused(c: Course, injection: bool, clock: f64) {
     refusal_of(c);
-    text(b" in step ");
+    if injection {
+        text(b" before step ");
+    } else {
+        text(b" in step ");
+    }
     number(c.number);
     text(b", clock ");
     io::print_hex(libc::STDERR_FILENO, times::bits_of(clock), 16);

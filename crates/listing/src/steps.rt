@@ -170,13 +170,12 @@ fn is_reached(end: End) -> bool {
     }
 }
 
-// Refusal 12: nothing is left to do.
+// Nothing is left to do.
 fn is_idle(c: Course) -> bool {
     if c.status != course::REFUSED {
         return false;
     }
-    let refusal = c.refusal;
-    rules::number(refusal) == rules::number(Refusal::Idle)
+    c.idle
 }
 
 // step_n: so many steps.

@@ -1,4 +1,5 @@
 // What standard error warns of. The listing and the status do not change by it.
+use crate::run::INJECT;
 use crate::say;
 use bench_file::Page;
 use hints::Known;
@@ -38,21 +39,24 @@ fn end(
     known: Known,
     said: usize,
 ) -> usize {
-    if MOST <= said {
+    if let Known::Known = known {
         return said;
     }
+    if said < MOST {
+        begun(path, text, page, row);
+        unknown(id, port, known);
+    }
+    if said < usize::MAX {
+        return said + 1;
+    }
+    said
+}
+
+fn unknown(id: u64, port: u64, known: Known) {
     match known {
-        Known::Known => said,
-        Known::NoModel => {
-            begun(path, text, page, row);
-            no_model(id);
-            said + 1
-        }
-        Known::NoPort => {
-            begun(path, text, page, row);
-            no_port(id, port);
-            said + 1
-        }
+        Known::Known => {}
+        Known::NoModel => no_model(id),
+        Known::NoPort => no_port(id, port),
     }
 }
 
@@ -145,7 +149,7 @@ fn injection(
     row: usize,
     said: usize,
 ) -> usize {
-    if words::word_at(cells, 0) != 1 {
+    if words::word_at(cells, 0) != INJECT {
         return said;
     }
     let id = words::word_at(cells, 3);
@@ -192,9 +196,12 @@ pub(crate) fn ends(
 ) {
     let first = connectors(path, text, models, couplings, links);
     let second = inner(path, text, models, couplings, first);
-    if MOST <= injections(path, text, models, couplings, actions, second) {
+    let all = injections(path, text, models, couplings, actions, second);
+    if MOST < all {
         say::text(path);
-        say::text(b": warning: there may be more of these\n");
+        say::text(b": warning: ");
+        say::number((all - MOST) as u64);
+        say::text(b" more of these\n");
     }
 }
 

@@ -4,24 +4,28 @@ use bench_file::Page;
 use reasons::Reason;
 use table::Verdict;
 
-// `FILE:LINE: ` of the row that a verdict names, or `FILE: `.
-pub(crate) fn place(path: &[u8], text: &[u8], verdict: Verdict) {
+// `FILE:LINE: ` of the row that a verdict names, or of the first that is too many.
+pub(crate) fn place(path: &[u8], text: &[u8], verdict: Verdict, reason: Reason) {
     match verdict {
         Verdict::BadRow(row) => row_of(path, text, Page::Models, row),
         Verdict::BadConnector(row) => row_of(path, text, Page::Connectors, row),
         Verdict::BadCoupling(row) => row_of(path, text, Page::Couplings, row),
-        Verdict::TooLarge => whole(path),
-        Verdict::Passed => whole(path),
+        Verdict::TooLarge => one_too_many(path, text, reason),
+        Verdict::Passed => {}
+    }
+}
+
+// The first row that a table has no room for.
+fn one_too_many(path: &[u8], text: &[u8], reason: Reason) {
+    match reason {
+        Reason::ManyModels => row_of(path, text, Page::Models, 64),
+        Reason::ManyConnectors => row_of(path, text, Page::Connectors, 256),
+        _ => row_of(path, text, Page::Couplings, 256),
     }
 }
 
 fn row_of(path: &[u8], text: &[u8], page: Page, row: usize) {
     say::place(path, bench_file::line_of(text, page, row));
-}
-
-fn whole(path: &[u8]) {
-    say::text(path);
-    say::text(b": ");
 }
 
 // The rule that is broken. The reader lets no row be cut short, no kind be unknown and no id or port be too large; the words are there

@@ -1,7 +1,7 @@
 -- `bench_file::line_of` meets its contract. The loop's invariant: the line is among those from here on, with so many rows before it. Assumes nothing.
 use borrow.Author.Needs.{needs}
 use mathlib.Core.Path.{_≡_, sym, ap, _∙_}
-use Prim.Native.Nat.{_+_, _-_, _≤_, _<_}
+use Prim.Native.Nat.{_-_, _≤_, _<_}
 use native.Mathlib.Omega.{arith}
 use mathlib.Core.List.{[]}
 use lib.ListN.{length, take, drop, drop-of-length-le}

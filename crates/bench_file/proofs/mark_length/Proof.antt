@@ -1,6 +1,4 @@
 -- `bench_file::mark_length` meets its contract. Assumes nothing.
-use mathlib.Core.Path.{refl}
-use native.Mathlib.Omega.{arith}
 use borrow.Author.Tests.{lt-leb, le-leb, ne-eqb}
 use borrow.Author.Needs.{needs}
 use Rattle.bench_file.proofs.mark_length.Statement.{statement}

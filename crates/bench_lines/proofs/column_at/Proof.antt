@@ -1,6 +1,4 @@
 -- `bench_lines::column_at` meets its contract. A word starts inside the line or at its end, so its column is a usize. Assumes nothing.
-use mathlib.Core.Path.{ap}
-use Prim.Native.Nat.{suc}
 use native.Mathlib.Omega.{arith}
 use Rattle.bench_words.specs.SplittingLaws.{word-inside}
 use borrow.Author.Needs.{needs}

@@ -1,6 +1,5 @@
 -- `bench_lines::ended` meets its contract. Assumes nothing.
 use borrow.Author.Needs.{needs}
-use native.Mathlib.Omega.{arith}
 use Rattle.bench_lines.proofs.ended.Statement.{statement}
 use Rattle.bench_lines.proofs.ended.Tie as tie
 

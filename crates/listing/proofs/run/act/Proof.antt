@@ -8,10 +8,10 @@ use Rattle.listing.proofs.run.act.Statement.{statement}
 use Rattle.listing.proofs.run.act.Tie as tie
 
 abbrev Inv-loop : tie.InvT-loop
-Inv-loop path text models state₀ services actions rows₀ buffer₀ settings c₀ at₀ row₀ state rows buffer c at row = (at ≤ length actions) × (row ≤ at) × (length state ≡ length state₀) × (length rows ≡ length rows₀) × (length buffer ≡ length buffer₀)
+Inv-loop path text state₀ services actions rows₀ buffer₀ settings c₀ at₀ row₀ state rows buffer c at row = (at ≤ length actions) × (row ≤ at) × (length state ≡ length state₀) × (length rows ≡ length rows₀) × (length buffer ≡ length buffer₀)
 
 abbrev μ-loop : tie.MeasureT-loop
-μ-loop path text models state₀ services actions rows₀ buffer₀ settings c₀ at₀ row₀ state rows buffer c at row = length actions - at
+μ-loop path text state₀ services actions rows₀ buffer₀ settings c₀ at₀ row₀ state rows buffer c at row = length actions - at
 
 loop-holds : tie.Need-loop-holds Inv-loop μ-loop
 loop-holds c = search needs
@@ -50,10 +50,10 @@ returns : tie.Need-returns Inv-loop μ-loop
 returns c = search needs
 
 add-at : tie.Need-add-at Inv-loop μ-loop
-add-at c = let l = (c .before .before .before .before .before .before .before .before .before .before .before .before .before .before .loop) in let here : l .at + 7 ≤ length ((c .before .before .before .before .before .before .before .before .before .before .before .before .before .before .before .before .before .before .before .before .before .before .before) .args .actions .now) = omega (arith, l .inv .0, (c .before .before .before .before .before .before .before .before .before .before .before .before .before .loop-test) .taken) in omega (arith, here, l .inv .1, (c .before .before .before .before .before .before .before .before .before .before .before .before .before .before .before .before .before .before .before .before .before .before .before) .good)
+add-at c = let l = (c .before .before .before .before .before .before .before .before .before .before .before .before .before .before .loop) in let here : l .at + 7 ≤ length ((c .before .before .before .before .before .before .before .before .before .before .before .before .before .before .before .before .before .before .before .before .before .before) .args .actions .now) = omega (arith, l .inv .0, (c .before .before .before .before .before .before .before .before .before .before .before .before .before .loop-test) .taken) in omega (arith, here, l .inv .1, (c .before .before .before .before .before .before .before .before .before .before .before .before .before .before .before .before .before .before .before .before .before .before) .good)
 
 add-row : tie.Need-add-row Inv-loop μ-loop
-add-row c = let l = (c .before .before .before .before .before .before .before .before .before .before .before .before .before .before .loop) in let here : l .at + 7 ≤ length ((c .before .before .before .before .before .before .before .before .before .before .before .before .before .before .before .before .before .before .before .before .before .before .before) .args .actions .now) = omega (arith, l .inv .0, (c .before .before .before .before .before .before .before .before .before .before .before .before .before .loop-test) .taken) in omega (arith, here, l .inv .1, (c .before .before .before .before .before .before .before .before .before .before .before .before .before .before .before .before .before .before .before .before .before .before .before) .good)
+add-row c = let l = (c .before .before .before .before .before .before .before .before .before .before .before .before .before .before .loop) in let here : l .at + 7 ≤ length ((c .before .before .before .before .before .before .before .before .before .before .before .before .before .before .before .before .before .before .before .before .before .before) .args .actions .now) = omega (arith, l .inv .0, (c .before .before .before .before .before .before .before .before .before .before .before .before .before .loop-test) .taken) in omega (arith, here, l .inv .1, (c .before .before .before .before .before .before .before .before .before .before .before .before .before .before .before .before .before .before .before .before .before .before) .good)
 
 loop-less : tie.Need-loop-less Inv-loop μ-loop
 loop-less c = search needs

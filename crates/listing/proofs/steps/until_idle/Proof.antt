@@ -1,5 +1,5 @@
 -- `until_idle`: left counts down. Assumes nothing.
-use mathlib.Core.Path.{_≡_}
+use mathlib.Core.Path.{_≡_, _∙_}
 use lib.ListN.{length}
 use borrow.Author.Needs.{needs}
 use Rattle.listing.proofs.steps.until_idle.Statement.{statement}
@@ -30,13 +30,13 @@ text-requires : tie.Need-text-requires Inv-loop μ-loop
 text-requires c κs = search needs
 
 same-length : tie.Need-same-length Inv-loop μ-loop
-same-length c = search needs
+same-length c = (c .before .before .before .before .before .before .before .before .before .before .before .before .before .before .step) .kept .0 ∙ (c .before .before .before .before .before .before .before .before .before .before .before .before .before .before .before .before .before .before .before .loop) .inv .0
 
 same-length-2 : tie.Need-same-length-2 Inv-loop μ-loop
-same-length-2 c = search needs
+same-length-2 c = (c .before .before .before .before .before .before .before .before .before .before .before .before .before .before .step) .kept .1 .1 .0 ∙ (c .before .before .before .before .before .before .before .before .before .before .before .before .before .before .before .before .before .before .before .loop) .inv .1
 
 same-length-3 : tie.Need-same-length-3 Inv-loop μ-loop
-same-length-3 c = search needs
+same-length-3 c = (c .before .before .text) .kept .0 ∙ (c .before .before .before .before .before .before .before .before .before .before .before .before .before .before .step) .kept .1 .1 .1 .0 ∙ (c .before .before .before .before .before .before .before .before .before .before .before .before .before .before .before .before .before .before .before .loop) .inv .2
 
 returns : tie.Need-returns Inv-loop μ-loop
 returns c = search needs
