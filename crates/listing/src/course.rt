@@ -83,8 +83,11 @@ pub(crate) fn busy(course: Course) -> Course {
 }
 
 // The action of a row, counted from 0, is done.
-pub(crate) fn acted(course: Course, row: usize) -> Course {
+pub(crate) fn acted(course: Course, row: usize, injection: bool) -> Course {
     let mut c = course;
+    if injection {
+        return c;
+    }
     if row < usize::MAX {
         c.idle_row = row + 1;
     }

@@ -287,15 +287,8 @@ fn one(
     settings: Settings,
 ) -> Course {
     let done = action(state, services, cells, rows, buffer, c, settings);
-    acted(
-        path,
-        text,
-        state,
-        buffer,
-        cells,
-        row,
-        course::acted(done, row),
-    )
+    let told = course::acted(done, row, is_injection(cells));
+    acted(path, text, state, buffer, cells, row, told)
 }
 
 fn acted(
