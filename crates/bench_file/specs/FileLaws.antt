@@ -80,14 +80,14 @@ pub record Filled (n m : Counts) (p q : Pages) : Type 0 where
   pub actions : Added 7 (n .actions) (m .actions) (p .actions) (q .actions)
 
 -- the rows that are counted are there
-record Fit (n : Counts) (p : Pages) : Type 0 where
+pub record Fit (n : Counts) (p : Pages) : Type 0 where
   pub models : n .models * 10 ≤ length (p .models)
   pub connectors : n .connectors * 4 ≤ length (p .connectors)
   pub couplings : n .couplings * 6 ≤ length (p .couplings)
   pub services : n .services * 1 ≤ length (p .services)
   pub actions : n .actions * 7 ≤ length (p .actions)
 
-fit-of : {n m : Counts} {p q : Pages} → Filled n m p q → Fit m q
+pub fit-of : {n m : Counts} {p q : Pages} → Filled n m p q → Fit m q
 fit-of f = record { models = omega (arith, f .models .room, f .models .long); connectors = omega (arith, f .connectors .room, f .connectors .long); couplings = omega (arith, f .couplings .room, f .couplings .long); services = omega (arith, f .services .room, f .services .long); actions = omega (arith, f .actions .room, f .actions .long) }
 
 filled-then : {n m k : Counts} {p q r : Pages} → Filled n m p q → Filled m k q r → Filled n k p r
@@ -126,7 +126,7 @@ module _ (n : Counts) (p : Pages) (fit : Fit n p) where
     page-in Actions = actions-in (hasRoom 7 (n .actions) (p .actions)) refl
     page-in Flag = record { models = added-none 10 (n .models) (p .models) (fit .models); connectors = added-none 4 (n .connectors) (p .connectors) (fit .connectors); couplings = added-none 6 (n .couplings) (p .couplings) (fit .couplings); services = added-none 1 (n .services) (p .services) (fit .services); actions = added-none 7 (n .actions) (p .actions) (fit .actions) }
 
-    said-in : (said : Said) → Filled n (fileSaid said cells n p .counts) p (fileSaid said cells n p .pages)
+    pub said-in : (said : Said) → Filled n (fileSaid said cells n p .counts) p (fileSaid said cells n p .pages)
     said-in Said.Nothing = filled-none
     said-in (Said.Row item) = page-in (pageOf item)
     said-in (Said.Wrong e) = filled-none
@@ -145,14 +145,14 @@ after-left n p line column Fine m q next f go =
     record { counts = rest .counts; filled = filled-then f (rest .filled); told = rest .told }
 after-left n p line column (Wrong e) m q next f go = record { counts = m; filled = f; told = λ k h. cc }
 
-from-left : (lines : List (List ℕ)) (k : ℕ) (n : Counts) (p : Pages) → Fit n p → Left n p (readFrom lines k n p)
+pub from-left : (lines : List (List ℕ)) (k : ℕ) (n : Counts) (p : Pages) → Fit n p → Left n p (readFrom lines k n p)
 from-left [] k n p fit = record { counts = n; filled = filled-none n p fit; told = λ m h. cc }
 from-left (line ∷ rest) k n p fit =
     let r = readLine line in
     let filed = fileSaid (r .said) (r .cells) n p in
     after-left n p (k + 1) (r .column) (filed .fault) (filed .counts) (filed .pages) (readFrom rest (k + 1)) (said-in n p fit (r .cells) (cells-ten line) (r .said)) (from-left rest (k + 1) (filed .counts) (filed .pages))
 
-none-fit : (p : Pages) → Fit noRows p
+pub none-fit : (p : Pages) → Fit noRows p
 none-fit p = record { models = omega arith; connectors = omega arith; couplings = omega arith; services = omega arith; actions = omega arith }
 
 -- of every file and every memory: rows from the start of each page on, each page as long as it was, all beyond the rows as it was

@@ -2,4 +2,5 @@
 pub mod Filing
 pub mod FilingLaws
 pub mod FileLaws
+pub mod LineLaws
 pub mod Cases

@@ -5,4 +5,5 @@ pub mod Reading
 pub mod ReadingLaws
 pub mod FormLaws
 pub mod CellLaws
+pub mod ColumnLaws
 pub mod Cases
