@@ -176,7 +176,7 @@ fn begin(
     if bits.len() <= 65536 {
         return listed(path, text, state, &times[0..bits.len()], actions, settings);
     }
-    course::start()
+    course::written(course::start(), course::WRONG)
 }
 
 fn listed(
