@@ -15,7 +15,7 @@ use Rattle.bench_lines.specs.declared.Fault.the-variants.{Fine, Wrong}
 use Rattle.bench_lines.specs.declared.Said.{Said}
 use Rattle.bench_lines.specs.declared.Said.the-variants as Said
 use Rattle.bench_lines.specs.Reading.{readLine}
-use Rattle.bench_lines.specs.CellLaws.{cells-ten}
+use Rattle.bench_lines.specs.LineLaws.{cells-ten}
 use Rattle.bench_file.specs.declared.Counts.{Counts}
 use Rattle.bench_file.specs.declared.Reading.the-variants as Reading
 use Rattle.bench_file.specs.declared.Page.{Page}

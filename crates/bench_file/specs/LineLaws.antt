@@ -16,14 +16,14 @@ use Rattle.bench_lines.specs.declared.Fault.the-variants.{Fine, Wrong}
 use Rattle.bench_lines.specs.declared.Said.{Said}
 use Rattle.bench_lines.specs.declared.Said.the-variants as Said
 use Rattle.bench_lines.specs.Reading.{readLine}
-use Rattle.bench_lines.specs.CellLaws.{cells-ten}
+use Rattle.bench_lines.specs.LineLaws.{cells-ten}
 use Rattle.bench_file.specs.declared.Counts.{Counts}
 use Rattle.bench_file.specs.declared.Reading.{Reading}
 use Rattle.bench_file.specs.declared.Reading.the-variants as Reading
 use Rattle.bench_file.specs.declared.Page.{Page}
 use Rattle.bench_file.specs.declared.Page.the-variants.{Models, Connectors, Couplings, Services, Actions, Flag}
 use Rattle.bench_file.specs.Filing.{Pages, Filing, pageOf, hasRoom, putRow, countOf, placed, fileIn, fileSaid, after, readFrom, noRows, bodyOf, readFile, samePage, isOn, leftAfter, lineIn, lineOf}
-use Rattle.bench_file.specs.FilingLaws.{row-room, row-here, row-later}
+use Rattle.bench_file.specs.FilingLaws.{row-room, row-here, row-later, page-is}
 use Rattle.bench_file.specs.FileLaws.{Added, Filled, Fit, fit-of, said-in, from-left, none-fit}
 
 -- ---- the rows of a page
@@ -175,73 +175,26 @@ module _ (n : Counts) (p : Pages) (cells : List ℕ) (ten : length cells ≡ 10)
   actions-moved true h e = more refl refl (put-row 7 (n .actions) (p .actions) h (omega arith))
   actions-moved false h e = no-fault _ e
 
+  own-page : (page : Page) → 0 < widthOf page → fileIn page cells n p .fault ≡ Fine → Moved page true cells n (fileIn page cells n p .counts) (fileIn page cells n p .pages)
+  own-page Models some e = models-moved (hasRoom 10 (n .models) (p .models)) refl e
+  own-page Connectors some e = connectors-moved (hasRoom 4 (n .connectors) (p .connectors)) refl e
+  own-page Couplings some e = couplings-moved (hasRoom 6 (n .couplings) (p .couplings)) refl e
+  own-page Services some e = services-moved (hasRoom 1 (n .services) (p .services)) refl e
+  own-page Actions some e = actions-moved (hasRoom 7 (n .actions) (p .actions)) refl e
+  own-page Flag some e = absurd (omega (arith, some))
+
+  other-page : (page other : Page) → samePage page other ≡ false → countOf page (fileIn other cells n p .counts) ≡ countOf page n
+  other-page page Models h = other-count n (hasRoom 10 (n .models) (p .models)) page Models h
+  other-page page Connectors h = other-count n (hasRoom 4 (n .connectors) (p .connectors)) page Connectors h
+  other-page page Couplings h = other-count n (hasRoom 6 (n .couplings) (p .couplings)) page Couplings h
+  other-page page Services h = other-count n (hasRoom 1 (n .services) (p .services)) page Services h
+  other-page page Actions h = other-count n (hasRoom 7 (n .actions) (p .actions)) page Actions h
+  other-page page Flag h = other-count n true page Flag h
+
   in-page : (page other : Page) (t : Bool) → samePage page other ≡ t → 0 < widthOf page → fileIn other cells n p .fault ≡ Fine → Moved page t cells n (fileIn other cells n p .counts) (fileIn other cells n p .pages)
-  in-page Models Models true h some e = models-moved (hasRoom 10 (n .models) (p .models)) refl e
-  in-page Models Models false h some e = no-false h
-  in-page Models Connectors true h some e = no-true h
-  in-page Models Connectors false h some e = none refl (other-count n (hasRoom 4 (n .connectors) (p .connectors)) Models Connectors h)
-  in-page Models Couplings true h some e = no-true h
-  in-page Models Couplings false h some e = none refl (other-count n (hasRoom 6 (n .couplings) (p .couplings)) Models Couplings h)
-  in-page Models Services true h some e = no-true h
-  in-page Models Services false h some e = none refl (other-count n (hasRoom 1 (n .services) (p .services)) Models Services h)
-  in-page Models Actions true h some e = no-true h
-  in-page Models Actions false h some e = none refl (other-count n (hasRoom 7 (n .actions) (p .actions)) Models Actions h)
-  in-page Models Flag true h some e = no-true h
-  in-page Models Flag false h some e = none refl (other-count n true Models Flag h)
-  in-page Connectors Models true h some e = no-true h
-  in-page Connectors Models false h some e = none refl (other-count n (hasRoom 10 (n .models) (p .models)) Connectors Models h)
-  in-page Connectors Connectors true h some e = connectors-moved (hasRoom 4 (n .connectors) (p .connectors)) refl e
-  in-page Connectors Connectors false h some e = no-false h
-  in-page Connectors Couplings true h some e = no-true h
-  in-page Connectors Couplings false h some e = none refl (other-count n (hasRoom 6 (n .couplings) (p .couplings)) Connectors Couplings h)
-  in-page Connectors Services true h some e = no-true h
-  in-page Connectors Services false h some e = none refl (other-count n (hasRoom 1 (n .services) (p .services)) Connectors Services h)
-  in-page Connectors Actions true h some e = no-true h
-  in-page Connectors Actions false h some e = none refl (other-count n (hasRoom 7 (n .actions) (p .actions)) Connectors Actions h)
-  in-page Connectors Flag true h some e = no-true h
-  in-page Connectors Flag false h some e = none refl (other-count n true Connectors Flag h)
-  in-page Couplings Models true h some e = no-true h
-  in-page Couplings Models false h some e = none refl (other-count n (hasRoom 10 (n .models) (p .models)) Couplings Models h)
-  in-page Couplings Connectors true h some e = no-true h
-  in-page Couplings Connectors false h some e = none refl (other-count n (hasRoom 4 (n .connectors) (p .connectors)) Couplings Connectors h)
-  in-page Couplings Couplings true h some e = couplings-moved (hasRoom 6 (n .couplings) (p .couplings)) refl e
-  in-page Couplings Couplings false h some e = no-false h
-  in-page Couplings Services true h some e = no-true h
-  in-page Couplings Services false h some e = none refl (other-count n (hasRoom 1 (n .services) (p .services)) Couplings Services h)
-  in-page Couplings Actions true h some e = no-true h
-  in-page Couplings Actions false h some e = none refl (other-count n (hasRoom 7 (n .actions) (p .actions)) Couplings Actions h)
-  in-page Couplings Flag true h some e = no-true h
-  in-page Couplings Flag false h some e = none refl (other-count n true Couplings Flag h)
-  in-page Services Models true h some e = no-true h
-  in-page Services Models false h some e = none refl (other-count n (hasRoom 10 (n .models) (p .models)) Services Models h)
-  in-page Services Connectors true h some e = no-true h
-  in-page Services Connectors false h some e = none refl (other-count n (hasRoom 4 (n .connectors) (p .connectors)) Services Connectors h)
-  in-page Services Couplings true h some e = no-true h
-  in-page Services Couplings false h some e = none refl (other-count n (hasRoom 6 (n .couplings) (p .couplings)) Services Couplings h)
-  in-page Services Services true h some e = services-moved (hasRoom 1 (n .services) (p .services)) refl e
-  in-page Services Services false h some e = no-false h
-  in-page Services Actions true h some e = no-true h
-  in-page Services Actions false h some e = none refl (other-count n (hasRoom 7 (n .actions) (p .actions)) Services Actions h)
-  in-page Services Flag true h some e = no-true h
-  in-page Services Flag false h some e = none refl (other-count n true Services Flag h)
-  in-page Actions Models true h some e = no-true h
-  in-page Actions Models false h some e = none refl (other-count n (hasRoom 10 (n .models) (p .models)) Actions Models h)
-  in-page Actions Connectors true h some e = no-true h
-  in-page Actions Connectors false h some e = none refl (other-count n (hasRoom 4 (n .connectors) (p .connectors)) Actions Connectors h)
-  in-page Actions Couplings true h some e = no-true h
-  in-page Actions Couplings false h some e = none refl (other-count n (hasRoom 6 (n .couplings) (p .couplings)) Actions Couplings h)
-  in-page Actions Services true h some e = no-true h
-  in-page Actions Services false h some e = none refl (other-count n (hasRoom 1 (n .services) (p .services)) Actions Services h)
-  in-page Actions Actions true h some e = actions-moved (hasRoom 7 (n .actions) (p .actions)) refl e
-  in-page Actions Actions false h some e = no-false h
-  in-page Actions Flag true h some e = no-true h
-  in-page Actions Flag false h some e = none refl (other-count n true Actions Flag h)
-  in-page Flag Models t h some e = absurd (omega (arith, some))
-  in-page Flag Connectors t h some e = absurd (omega (arith, some))
-  in-page Flag Couplings t h some e = absurd (omega (arith, some))
-  in-page Flag Services t h some e = absurd (omega (arith, some))
-  in-page Flag Actions t h some e = absurd (omega (arith, some))
-  in-page Flag Flag t h some e = absurd (omega (arith, some))
+  in-page page other true h some e =
+      subst (λ (to : Page). fileIn to cells n p .fault ≡ Fine → Moved page true cells n (fileIn to cells n p .counts) (fileIn to cells n p .pages)) (page-is page other h) (own-page page some) e
+  in-page page other false h some e = none refl (other-page page other h)
 
   said-moved : (page : Page) (said : Said) → 0 < widthOf page → fileSaid said cells n p .fault ≡ Fine → Moved page (isOn page said) cells n (fileSaid said cells n p .counts) (fileSaid said cells n p .pages)
   said-moved page Said.Nothing some e = none refl refl

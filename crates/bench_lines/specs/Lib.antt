@@ -4,6 +4,5 @@ pub mod Forms
 pub mod Reading
 pub mod ReadingLaws
 pub mod FormLaws
-pub mod CellLaws
-pub mod ColumnLaws
+pub mod LineLaws
 pub mod Cases

@@ -204,21 +204,12 @@ fn listed(
     out::flush(&buffer, c)
 }
 
-// Where the changing part of a state begins. It is behind the table, whose rows the first three words count.
+// Where the changing part of a state begins.
 fn changing_at(state: &[u64]) -> usize {
-    let models = words::word_at(state, 0);
-    let connectors = words::word_at(state, 1);
-    let couplings = words::word_at(state, 2);
-    if 64 < models {
-        return 0;
+    if holding::is_state(state) {
+        return lookup::tail_at(state);
     }
-    if 256 < connectors {
-        return 0;
-    }
-    if 256 < couplings {
-        return 0;
-    }
-    3 + 10 * models as usize + 4 * connectors as usize + 6 * couplings as usize
+    state.len()
 }
 
 fn left_over(path: &[u8], text: &[u8], state: &[u64], given: usize) {
