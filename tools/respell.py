@@ -10,7 +10,7 @@ import os
 import re
 import sys
 
-NAME = re.compile(r"[A-Za-z_◌][\w'◌]*(?:-[\w'◌]+)*")
+NAME = re.compile(r"(?<![\w'◌])[A-Za-z_◌][\w'◌]*(?:-[\w'◌]+)*")
 CAMEL = re.compile(r"[a-z][a-z0-9_]*[A-Z]\w*")
 # The bits of a number in hexadecimal are no name.
 BITS = re.compile(r"x[0-9A-F]{8,}")

@@ -34,10 +34,10 @@ pub record Table : Type 0 where
   -- there is no whole row for a coupling
   pub no_room : read_file (bytes "\n  input 1:1 to 2:1") lent ≡ ending (Wrong 2 3 (only NoMore)) lent
   -- a mark at the start is passed over, and its bytes are no columns; two of its bytes are none, and one behind the start is none
-  pub marked : read_file (0x_e_f ∷ 0x_b_b ∷ 0x_b_f ∷ bytes "x") lent ≡ ending (Wrong 1 1 (only AnItem)) lent
-  pub mark-alone : read_file (0x_e_f ∷ 0x_b_b ∷ 0x_b_f ∷ []) lent ≡ read_file [] lent
-  pub half-a-mark : read_file (0x_e_f ∷ 0x_b_b ∷ []) lent ≡ ending (Wrong 1 1 (only AnItem)) lent
-  pub mark-behind : read_file (32 ∷ 0x_e_f ∷ 0x_b_b ∷ 0x_b_f ∷ []) lent ≡ ending (Wrong 1 2 (only AnItem)) lent
+  pub marked : read_file (0xEF ∷ 0xBB ∷ 0xBF ∷ bytes "x") lent ≡ ending (Wrong 1 1 (only AnItem)) lent
+  pub mark-alone : read_file (0xEF ∷ 0xBB ∷ 0xBF ∷ []) lent ≡ read_file [] lent
+  pub half-a-mark : read_file (0xEF ∷ 0xBB ∷ []) lent ≡ ending (Wrong 1 1 (only AnItem)) lent
+  pub mark-behind : read_file (32 ∷ 0xEF ∷ 0xBB ∷ 0xBF ∷ []) lent ≡ ending (Wrong 1 2 (only AnItem)) lent
   -- the lines of a page's rows
   pub first-service : line_of Services 0 (bytes "\nservice 1\nrows\nservice 2") ≡ 2
   pub second-service : line_of Services 1 (bytes "\nservice 1\nrows\nservice 2") ≡ 4

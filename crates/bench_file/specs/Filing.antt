@@ -134,7 +134,7 @@ no_rows = record { models = 0; connectors = 0; couplings = 0; services = 0; acti
 
 -- "A byte order mark at the file's start is passed over": EF BB BF. The first line's columns count from behind it
 abbrev pub mark_span : List ℕ → ℕ
-mark_span text = if hold (leb 3 (length text) ∷ eqb (get_or text 0 0) 0x_e_f ∷ eqb (get_or text 1 0) 0x_b_b ∷ eqb (get_or text 2 0) 0x_b_f ∷ []) then 3 else 0
+mark_span text = if hold (leb 3 (length text) ∷ eqb (get_or text 0 0) 0xEF ∷ eqb (get_or text 1 0) 0xBB ∷ eqb (get_or text 2 0) 0xBF ∷ []) then 3 else 0
 
 abbrev pub body_of : List ℕ → List ℕ
 body_of text = drop (mark_span text) text

@@ -81,11 +81,11 @@ mark-by n true false h = omega arith
 mark-by n false u h = omega arith
 
 pub mark-within : (text : List ℕ) → mark_span text ≤ length text
-mark-within text = mark-by (length text) (leb 3 (length text)) (hold (eqb (get_or text 0 0) 0x_e_f ∷ eqb (get_or text 1 0) 0x_b_b ∷ eqb (get_or text 2 0) 0x_b_f ∷ [])) refl
+mark-within text = mark-by (length text) (leb 3 (length text)) (hold (eqb (get_or text 0 0) 0xEF ∷ eqb (get_or text 1 0) 0xBB ∷ eqb (get_or text 2 0) 0xBF ∷ [])) refl
 
 -- a mark is passed over, whatever comes behind it
-pub marked : (text : List ℕ) → body_of (0x_e_f ∷ 0x_b_b ∷ 0x_b_f ∷ text) ≡ text
-marked text = rw (le-leb 3 (length (0x_e_f ∷ 0x_b_b ∷ 0x_b_f ∷ text)) (omega arith))
+pub marked : (text : List ℕ) → body_of (0xEF ∷ 0xBB ∷ 0xBF ∷ text) ≡ text
+marked text = rw (le-leb 3 (length (0xEF ∷ 0xBB ∷ 0xBF ∷ text)) (omega arith))
 
 -- ---- one page is no other
 pub page-is : (a b : Page) → same_page a b ≡ true → a ≡ b

@@ -249,13 +249,13 @@ pub fn mark_length(text: &[u8]) -> usize
     if text.len() < 3 {
         return 0;
     }
-    if text[0] != 0x_e_f {
+    if text[0] != 0xEF {
         return 0;
     }
-    if text[1] != 0x_b_b {
+    if text[1] != 0xBB {
         return 0;
     }
-    if text[2] != 0x_b_f {
+    if text[2] != 0xBF {
         return 0;
     }
     3

@@ -39,7 +39,7 @@ pub record Table : Type 0 where
   pub input : Is "input 5:1 to 6:2" Input (5 ∷ 1 ∷ 0 ∷ 1 ∷ 6 ∷ 2 ∷ 0 ∷ 0 ∷ 0 ∷ 0 ∷ [])
   pub output : Is "output 6:2 to 5:1" Output (5 ∷ 2 ∷ 6 ∷ 2 ∷ 0 ∷ 1 ∷ 0 ∷ 0 ∷ 0 ∷ 0 ∷ [])
   pub internal : Is "internal 5 6:2 to 7:1" Internal (5 ∷ 3 ∷ 6 ∷ 2 ∷ 7 ∷ 1 ∷ 0 ∷ 0 ∷ 0 ∷ 0 ∷ [])
-  pub service : Is "service 0x3f_e0000000000000" Service (0x3fe0000000000000 ∷ 0 ∷ 0 ∷ 0 ∷ 0 ∷ 0 ∷ 0 ∷ 0 ∷ 0 ∷ 0 ∷ [])
+  pub service : Is "service 0x3fE0000000000000" Service (0x3fe0000000000000 ∷ 0 ∷ 0 ∷ 0 ∷ 0 ∷ 0 ∷ 0 ∷ 0 ∷ 0 ∷ 0 ∷ [])
   pub inject-input : Is "inject_input 0:1 to 1:1 time 0 content 4294967295" InjectInput (1 ∷ 0 ∷ 1 ∷ 1 ∷ 1 ∷ 0 ∷ 4294967295 ∷ 0 ∷ 0 ∷ 0 ∷ [])
   pub step-n : Is "step_n 18446744073709551615" StepN (2 ∷ 18446744073709551615 ∷ 0 ∷ 0 ∷ 0 ∷ 0 ∷ 0 ∷ 0 ∷ 0 ∷ 0 ∷ [])
   pub step_until : Is "step_until 9007199254740992 allowance 7" StepUntil (3 ∷ 0x4340000000000000 ∷ 7 ∷ 0 ∷ 0 ∷ 0 ∷ 0 ∷ 0 ∷ 0 ∷ 0 ∷ [])

@@ -34,9 +34,9 @@ metric_of word = if same word (text_in (padded (bytes "minimum"))) then Is 0 els
 -- what a word stands for where this value is expected
 abbrev pub value_of : Value → List ℕ → Number
 value_of TheEnd word = Not
-value_of AnId word = number_of 0x_fff_f word
-value_of ASmall word = number_of 0x_ffff_fff_f word
-value_of AWhole word = number_of 0x_ffff_ffff_ffff_fff_f word
+value_of AnId word = number_of 0xFFFF word
+value_of ASmall word = number_of 0xFFFF_FFFF word
+value_of AWhole word = number_of 0xFFFF_FFFF_FFFF_FFFF word
 value_of ATime word = time_of word
 value_of AMetric word = metric_of word
 

@@ -399,9 +399,9 @@ fn value_of(word: &[u8], value: Value) -> Number
 {
     match value {
         Value::TheEnd => Number::Not,
-        Value::AnId => bench_words::number_of(word, 0x_fff_f),
-        Value::ASmall => bench_words::number_of(word, 0x_ffff_fff_f),
-        Value::AWhole => bench_words::number_of(word, 0x_ffff_ffff_ffff_fff_f),
+        Value::AnId => bench_words::number_of(word, 0xFFFF),
+        Value::ASmall => bench_words::number_of(word, 0xFFFF_FFFF),
+        Value::AWhole => bench_words::number_of(word, 0xFFFF_FFFF_FFFF_FFFF),
         Value::ATime => bench_words::time_of(word),
         Value::AMetric => metric_of(word),
     }

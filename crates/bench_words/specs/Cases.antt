@@ -13,21 +13,21 @@ abbrev None : String → Type 0
 None word = time_of (bytes word) ≡ Not
 
 pub record Table : Type 0 where
-  pub half : Reads "0.5" 0x3fe0_0000_0000_0000
+  pub half : Reads "0.5" 0x3FE0_0000_0000_0000
   pub quarter : Reads "12.25" 0x4028_8000_0000_0000
-  pub tenth : Reads "0.1" 0x3fb9_9999_9999_999a
-  pub three-tenths : Reads "0.3" 0x3fd3_3333_3333_3333
+  pub tenth : Reads "0.1" 0x3FB9_9999_9999_999A
+  pub three-tenths : Reads "0.3" 0x3FD3_3333_3333_3333
   pub below-2675 : Reads "2.675" 0x4005_6666_6666_6666
-  pub fifteen_digits : Reads "999999999999.999" 0x426d_1a94_a1ff_fff8
-  pub smallest : Reads "0.00000000000001" 0x3d06_849b_86a1_2b9b
-  pub zero-before : Reads "00.5" 0x3fe0_0000_0000_0000
-  pub nine-and-six : Reads "123456789.012345" 0x419d_6f34_540c_a42b
-  pub fourteen-and-one : Reads "99999999999999.9" 0x42d6_bcc4_1e8f_fff_a
+  pub fifteen_digits : Reads "999999999999.999" 0x426D_1A94_A1FF_FFF8
+  pub smallest : Reads "0.00000000000001" 0x3D06_849B_86A1_2B9B
+  pub zero-before : Reads "00.5" 0x3FE0_0000_0000_0000
+  pub nine-and-six : Reads "123456789.012345" 0x419D_6F34_540C_A42B
+  pub fourteen-and-one : Reads "99999999999999.9" 0x42D6_BCC4_1E8F_FFFA
   pub nought : Reads "0.0" 0x0000_0000_0000_0000
   pub whole-with-point : Reads "12.0" 0x4028_0000_0000_0000
   pub whole : Reads "12" 0x4028_0000_0000_0000
   pub sixteen-digits-whole : Reads "9007199254740992" 0x4340_0000_0000_0000
-  pub bits : Reads "0x3FB999999999999A" 0x3fb9_9999_9999_999a
+  pub bits : Reads "0x3FB999999999999A" 0x3FB9_9999_9999_999A
   pub nothing-before : None ".5"
   pub nothing-behind : None "5."
   pub two-points : None "1.2.3"

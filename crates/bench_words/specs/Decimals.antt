@@ -238,7 +238,7 @@ bits-point (a ∷ b ∷ rest) e h =
     within p q h = omega (arith, rw (p, q) at h)
 
 bits-pointed : (word : List ℕ) → has_bits word ≡ true → has_point word ≡ true → time_of word ≡ Not
-bits-pointed word e p = time-bits word e ∙ pointed-not 16 0x_ffff_ffff_ffff_fff_f 0 (drop 2 word) (omega arith) (bits-point word e (ltb-true (text_span word) (length word) p))
+bits-pointed word e p = time-bits word e ∙ pointed-not 16 0xFFFF_FFFF_FFFF_FFFF 0 (drop 2 word) (omega arith) (bits-point word e (ltb-true (text_span word) (length word) p))
 
 pub only-decimals : (word : List ℕ) (b : ℕ) → has_point word ≡ true → time_of word ≡ Is b → Parted word
 only-decimals word b p e = go (has_bits word) refl
@@ -249,7 +249,7 @@ only-decimals word b p e = go (has_bits word) refl
 
 -- ---- words without a point, and all that was read before there were decimal numbers, read as they did
 abbrev pub earlier : List ℕ → Number
-earlier word = if has_bits word then numeral 16 0x_ffff_ffff_ffff_fff_f 0 (drop 2 word) else ticks (number_of 0x20_0000_0000_0000 word)
+earlier word = if has_bits word then numeral 16 0xFFFF_FFFF_FFFF_FFFF 0 (drop 2 word) else ticks (number_of 0x20_0000_0000_0000 word)
 
 pub without-point : (word : List ℕ) → has_point word ≡ false → time_of word ≡ earlier word
 unfolding time_of
@@ -264,8 +264,8 @@ pub earlier-kept : (word : List ℕ) (b : ℕ) → earlier word ≡ Is b → tim
 unfolding time_of
 earlier-kept word b e = go (has_bits word) (has_point word) refl e
   where
-    go : (t u : Bool) → has_point word ≡ u → (if t then numeral 16 0x_ffff_ffff_ffff_fff_f 0 (drop 2 word) else ticks (number_of 0x20_0000_0000_0000 word)) ≡ Is b
-        → (if t then numeral 16 0x_ffff_ffff_ffff_fff_f 0 (drop 2 word) else if u then decimal_of word else ticks (number_of 0x20_0000_0000_0000 word)) ≡ Is b
+    go : (t u : Bool) → has_point word ≡ u → (if t then numeral 16 0xFFFF_FFFF_FFFF_FFFF 0 (drop 2 word) else ticks (number_of 0x20_0000_0000_0000 word)) ≡ Is b
+        → (if t then numeral 16 0xFFFF_FFFF_FFFF_FFFF 0 (drop 2 word) else if u then decimal_of word else ticks (number_of 0x20_0000_0000_0000 word)) ≡ Is b
     go true u p e = e
     go false true p e = let no = ap ticks (whole-pointed word p) in let z : ◌≡◌ {A = ℕ} 0 1 = cc in absurd (omega arith)
     go false false p e = e

@@ -65,6 +65,6 @@ decimal_of word =
 -- the bits of a time: as they are written, or those of a decimal number, or those of a whole number of at most 2^53
 unfoldable pub time_of : List ℕ → Number
 time_of word =
-    if has_bits word then numeral 16 0x_ffff_ffff_ffff_fff_f 0 (drop 2 word)
+    if has_bits word then numeral 16 0xFFFF_FFFF_FFFF_FFFF 0 (drop 2 word)
     else if has_point word then decimal_of word
     else ticks (number_of 0x20_0000_0000_0000 word)

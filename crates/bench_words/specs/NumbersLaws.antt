@@ -105,7 +105,7 @@ number-some most (b ∷ bs) h = refl
 
 -- ---- a time by its kind
 module _ (word : List ℕ) where
-  pub time-bits : has_bits word ≡ true → time_of word ≡ numeral 16 0x_ffff_ffff_ffff_fff_f 0 (drop 2 word)
+  pub time-bits : has_bits word ≡ true → time_of word ≡ numeral 16 0xFFFF_FFFF_FFFF_FFFF 0 (drop 2 word)
   unfolding time_of
   time-bits h = rw h
 

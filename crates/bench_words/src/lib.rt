@@ -247,7 +247,7 @@ pub fn time_of(word: &[u8]) -> Number
     ensures { result ≡ time_of word.now }
 {
     if has_bits(word) {
-        return digits(word, 2, 16, 0x_ffff_ffff_ffff_fff_f, 0);
+        return digits(word, 2, 16, 0xFFFF_FFFF_FFFF_FFFF, 0);
     }
     let point = point_at(word);
     if point < word.len() {

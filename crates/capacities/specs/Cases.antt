@@ -6,7 +6,7 @@ use Rattle.rules.specs.Layout.{model_row, lent}
 use Rattle.capacities.specs.Migration.{old_model_row, old_lent, written_out}
 
 abbrev largest : ℕ
-largest = 0x_ffff_ffff_ffff_fff_f
+largest = 0xFFFF_FFFF_FFFF_FFFF
 
 -- a row of words: kind, given fields and setting; the other words are its own
 abbrev saying : ℕ → ℕ → ℕ → List ℕ

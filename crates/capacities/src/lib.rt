@@ -5,7 +5,7 @@ ghost use Rattle.capacities.specs.Migration.{row_written_out, written_out};
 ghost use Rattle.capacities.specs.Rows.{counted_of};
 
 // What an omitted capacity was once: no queue reaches it.
-const WITHOUT_END: u64 = 0x_ffff_ffff_ffff_fff_f;
+const WITHOUT_END: u64 = 0xFFFF_FFFF_FFFF_FFFF;
 
 // Whether this is a Processor's row that omits the field.
 fn omits(cells: &[u64]) -> bool

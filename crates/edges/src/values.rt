@@ -12,11 +12,11 @@ pub(crate) fn float(bits: u64) -> f64 {
 // What is no timer, of those that the cases have: the next above 2^60, four with a sign, and one NaN.
 fn other(bits: u64) -> f64 {
     match bits {
-        0x43b0_0000_0000_0001 => 1152921504606847232.0,
+        0x43B0_0000_0000_0001 => 1152921504606847232.0,
         0x8000_0000_0000_0000 => -0.0,
         0xBFF0_0000_0000_0000 => -1.0,
         0xC010_0000_0000_0000 => -4.0,
-        0x_fff0_0000_0000_0000 => -times::never(),
+        0xFFF0_0000_0000_0000 => -times::never(),
         _ => times::never() - times::never(),
     }
 }

@@ -32,7 +32,7 @@ enum Next {
 fn is_time(bits: u64) -> bool
     ensures { result ≡ is_time (of_bits binary64 bits) }
 {
-    bits <= 0x43b0_0000_0000_0000
+    bits <= 0x43B0_0000_0000_0000
 }
 
 // Whether the bits are a timer's: a time's, or those of +infinity.
@@ -42,7 +42,7 @@ fn is_timer(bits: u64) -> bool
     if is_time(bits) {
         return true;
     }
-    bits == 0x7ff0_0000_0000_0000
+    bits == 0x7FF0_0000_0000_0000
 }
 
 // Whether each place holds 0. It never ends early, so that the compiler may join several words at once.
@@ -78,7 +78,7 @@ fn are_contents(jobs: &[u64]) -> bool
 {
     let mut k = 0;
     while k < jobs.len() {
-        if 0x_ffff_fff_f < jobs[k] {
+        if 0xFFFF_FFFF < jobs[k] {
             return false;
         }
         k += 1;
@@ -268,22 +268,22 @@ fn message_fits(mem: &[u64], at: usize, k: usize) -> bool
     ensures { result ≡ hold (message_rules (message_in at mem.now k)) }
 {
     let start = at + k * 6;
-    if 0x_fff_f < mem[start] {
+    if 0xFFFF < mem[start] {
         return false;
     }
-    if 0x_fff_f < mem[start + 1] {
+    if 0xFFFF < mem[start + 1] {
         return false;
     }
-    if 0x_fff_f < mem[start + 2] {
+    if 0xFFFF < mem[start + 2] {
         return false;
     }
-    if 0x_fff_f < mem[start + 3] {
+    if 0xFFFF < mem[start + 3] {
         return false;
     }
     if !is_time(mem[start + 4]) {
         return false;
     }
-    mem[start + 5] <= 0x_ffff_fff_f
+    mem[start + 5] <= 0xFFFF_FFFF
 }
 
 fn messages_fit(mem: &[u64], at: usize, count: usize) -> bool

@@ -133,7 +133,7 @@ fn write_some(fd: i32, bytes: &[u8]) -> usize {
 }
 
 fn more_blocks(blocks: u64, more: usize) -> u64 {
-    if 0x_ffff_fff_f < blocks {
+    if 0xFFFF_FFFF < blocks {
         return blocks;
     }
     if 128 < more {

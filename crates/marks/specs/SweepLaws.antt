@@ -244,7 +244,7 @@ fit-turn words k held h = turn (fit_from words) (λ j n. fit_at words k n && fit
 pub timer-fits : (word : ℕ) (x : Float) → timer_of_bits word ≡ Timer x → mark_fits word ≡ true
 timer-fits word x e = let w = timer-says word x e in is_true (mark_fits word) (subst (λ y. T (is_timer y)) w.1 w.0)
 
-pub content-low : (name : ℕ) → name ≤ 0x_ffff_fff_f → is_content name ≡ true
+pub content-low : (name : ℕ) → name ≤ 0xFFFF_FFFF → is_content name ≡ true
 content-low name h = lt-ltb name (2 ^ 32) (omega arith)
 
 pub content-high : (name : ℕ) → 2 ^ 32 ≤ name → is_content name ≡ false

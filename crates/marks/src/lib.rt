@@ -210,7 +210,7 @@ fn fits_at(words: &[u64], k: usize, held: usize) -> bool
     ensures { result ≡ fit_at words.now k (held - (k + 1)) }
 {
     let name = words[k];
-    if 0x_ffff_fff_f < name {
+    if 0xFFFF_FFFF < name {
         return false;
     }
     if !is_mark(words[64 + k]) {

@@ -237,7 +237,7 @@ fn in_order(bits: u64) -> u64 {
     if bits < 0x8000_0000_0000_0000 {
         return bits + 0x8000_0000_0000_0000;
     }
-    0x_ffff_ffff_ffff_fff_f - bits
+    0xFFFF_FFFF_FFFF_FFFF - bits
 }
 
 // The oracle tells a mean with three digits, so it stands in the list as the two ends that it lies between: each end, where it does.

@@ -14,7 +14,7 @@ fn number(word: &[u8]) -> Number {
     if word.len() == 18 {
         return bench_words::time_of(word);
     }
-    bench_words::number_of(word, 0x_ffff_ffff_ffff_fff_f)
+    bench_words::number_of(word, 0xFFFF_FFFF_FFFF_FFFF)
 }
 
 // The numbers of a line, laid into words, which are more than there are numbers.

@@ -48,7 +48,7 @@ fn clear(state: &mut [u64], start: usize, end: usize)
 fn timer_of(kind: u64) -> u64
     ensures { result ≡ timer_word (numbered kind) }
 {
-    if kind == 4 { 0 } else { 0x7ff0_0000_0000_0000 }
+    if kind == 4 { 0 } else { 0x7FF0_0000_0000_0000 }
 }
 
 // How many words of its own a row has, by the number of its kind.

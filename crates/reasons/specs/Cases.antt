@@ -58,8 +58,8 @@ pub record Named : Type 0 where
   pub batch-of-1 : of_models (batcher 1 0) ≡ NoReason
   pub largest-batch : of_models (batcher (2 ^ 62) 0) ≡ NoReason
   pub large-batch : of_models (batcher (2 ^ 62 + 1) 0) ≡ LargeBatch
-  pub latest-time : of_models (batcher 1 0x43b0_0000_0000_0000) ≡ NoReason
-  pub no-time : of_models (batcher 1 0x43b0_0000_0000_0001) ≡ NoBatchTime
+  pub latest-time : of_models (batcher 1 0x43B0_0000_0000_0000) ≡ NoReason
+  pub no-time : of_models (batcher 1 0x43B0_0000_0000_0001) ≡ NoBatchTime
   pub metric-1 : of_models (stopwatch 1 2 3 1) ≡ NoReason
   pub metric-2 : of_models (stopwatch 1 2 3 2) ≡ UnknownMetric
   pub metric-omitted : of_models (1 ∷ 3 ∷ 0 ∷ 0 ∷ 1 ∷ 2 ∷ 3 ∷ 9 ∷ 2 ∷ 0 ∷ []) ≡ NoReason

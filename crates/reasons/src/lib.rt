@@ -46,7 +46,7 @@ fn first_wide(cells: &[u64], first: usize, end: usize) -> Found
 {
     let mut at = first;
     while at < end {
-        if 0x_fff_f < words::word_at(cells, at) {
+        if 0xFFFF < words::word_at(cells, at) {
             return Found::At(at);
         }
         at += 1;
@@ -175,7 +175,7 @@ fn kind_reason(models: &[u64], row: usize, cells: &[u64]) -> Reason
 fn port_reason(models: &[u64], row: usize, cells: &[u64]) -> Reason
     ensures { result ≡ Reasons.port_reason models.now row cells.now }
 {
-    if 0x_fff_f < words::word_at(cells, 0) {
+    if 0xFFFF < words::word_at(cells, 0) {
         return Reason::ModelWide(0);
     }
     match first_wide(cells, 4, 8) {
@@ -239,7 +239,7 @@ fn end_reason(models: &[u64], cells: &[u64]) -> Reason
     ensures { result ≡ Reasons.end_reason models.now cells.now }
 {
     let owner = words::word_at(cells, 0);
-    if 0x_fff_f < owner {
+    if 0xFFFF < owner {
         return Reason::CouplingWide(0);
     }
     match first_wide(cells, 2, 6) {

@@ -21,7 +21,7 @@ abbrev pub at : ℕ → Float
 at bits = of_bits binary64 bits
 
 abbrev pub one : Float
-one = at 0x3ff0_0000_0000_0000
+one = at 0x3FF0_0000_0000_0000
 
 abbrev pub two : Float
 two = at 0x4000_0000_0000_0000

@@ -195,9 +195,9 @@ pub record Running : Type 0 where
   pub n-0 : ran_n 0 0 going ≡ record { end = Done; steps = 0; rows = []; left = 1 ∷ []; clock = three }
   pub n-3 : ran_n 3 3 going ≡ record { end = Done; steps = 3; rows = 2 ∷ 1 ∷ 2 ∷ []; left = 2 ∷ []; clock = three }
   -- the room that is left is less the rows collected so far: here 2, 0 and 1
-  pub n-room-3 : ran_n 3 3 uneven ≡ record { end = Done; steps = 3; rows = 8 ∷ 8 ∷ 8 ∷ []; left = 8 ∷ []; clock = at 0x402a_0000_0000_0000 }
+  pub n-room-3 : ran_n 3 3 uneven ≡ record { end = Done; steps = 3; rows = 8 ∷ 8 ∷ 8 ∷ []; left = 8 ∷ []; clock = at 0x402A_0000_0000_0000 }
   pub n-room-2 : ran_n 2 3 uneven ≡ record { end = Refused NoOutRoom; steps = 2; rows = 8 ∷ 8 ∷ []; left = []; clock = three }
-  pub until-room-3 : ran_until latest 3 3 uneven ≡ record { end = Spent; steps = 3; rows = 8 ∷ 8 ∷ 8 ∷ []; left = 8 ∷ []; clock = at 0x402a_0000_0000_0000 }
+  pub until-room-3 : ran_until latest 3 3 uneven ≡ record { end = Spent; steps = 3; rows = 8 ∷ 8 ∷ 8 ∷ []; left = 8 ∷ []; clock = at 0x402A_0000_0000_0000 }
   pub until-room-2 : ran_until latest 2 3 uneven ≡ record { end = Refused NoOutRoom; steps = 2; rows = 8 ∷ 8 ∷ []; left = []; clock = three }
   -- "`step` is `step_n` for one step"
   pub one-step-no-room : see (step [] 0 going) ≡ record { end = Refused NoOutRoom; steps = 0; rows = []; left = 1 ∷ []; clock = three }
@@ -294,10 +294,10 @@ abbrev wide : ℕ
 wide = 2 ^ 16
 
 abbrev nan : Float
-nan = at 0x7ff8_0000_0000_0000
+nan = at 0x7FF8_0000_0000_0000
 
 abbrev above_latest : Float
-above_latest = at 0x43b0_0000_0000_0001
+above_latest = at 0x43B0_0000_0000_0001
 
 abbrev watch_of : Float → List Marks → State
 watch_of timer jobs = of_stopwatch (record { phase = watching.Passive; timer = timer; jobs = jobs })

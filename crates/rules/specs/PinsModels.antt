@@ -260,8 +260,8 @@ pub record Stopwatches : Type 0 where
   -- "Internal in Passive: nothing, infinite."
   pub in-passive : stopwatch_internal (watch_of Minimum) (measures watching.Passive instant (lasting 7 one two ∷ [])) ≡ (idle (lasting 7 one two ∷ []), [])
   -- status: "the mean of complete durations (summed in order from 0, then divided by their number, each operation rounded once), or none if none is complete"
-  pub mean-of-two : mean (durations (lasting 7 one two ∷ mark 8 (some one) none ∷ lasting 9 two four ∷ [])) ≡ some (at 0x3ff8_0000_0000_0000)
-  pub mean-rounded : mean (durations (lasting 7 instant one ∷ lasting 8 one one ∷ lasting 9 two two ∷ [])) ≡ some (at 0x3fd5_5555_5555_5555)
+  pub mean-of-two : mean (durations (lasting 7 one two ∷ mark 8 (some one) none ∷ lasting 9 two four ∷ [])) ≡ some (at 0x3FF8_0000_0000_0000)
+  pub mean-rounded : mean (durations (lasting 7 instant one ∷ lasting 8 one one ∷ lasting 9 two two ∷ [])) ≡ some (at 0x3FD5_5555_5555_5555)
   pub mean-in-order : mean (durations (lasting 7 instant one ∷ lasting 8 instant one ∷ lasting 9 instant one ∷ lasting 10 instant two_to_54 ∷ [])) ≡ some (at 0x4330_0000_0000_0001)
   pub mean-in-other-order : mean (durations (lasting 7 instant two_to_54 ∷ lasting 8 instant one ∷ lasting 9 instant one ∷ lasting 10 instant one ∷ [])) ≡ some (at 0x4330_0000_0000_0000)
   pub mean-none : mean (durations others) ≡ none

@@ -324,13 +324,13 @@ busy = active (7 ∷ []) four ∷ active (8 ∷ []) two ∷ no_batch ∷ of_coup
 
 -- 0.1, 0.2, 0.3 and what rounding makes of 0.1 + 0.2 and 0.3 - 0.1
 abbrev tenth : Float
-tenth = at 0x3fb9_9999_9999_999a
+tenth = at 0x3FB9_9999_9999_999A
 
 abbrev fifth : Float
-fifth = at 0x3fc9_9999_9999_999a
+fifth = at 0x3FC9_9999_9999_999A
 
 abbrev three_tenths : Float
-three_tenths = at 0x3fd3_3333_3333_3333
+three_tenths = at 0x3FD3_3333_3333_3333
 
 abbrev lone : Float → Float → Simulation
 lone t clock = simulation (table_of (row 1 (a_batcher 2 ten) ∷ []) [] []) (batch (11 ∷ []) t ∷ []) [] clock
@@ -394,8 +394,8 @@ pub record Steps : Type 0 where
   pub not-idle : end_of (in_hall [] quiet (job 9 1 21 ∷ []) three) ≡ Done
   -- "rounded once"
   pub timer-rounded : states_of (simulation (table_of (row 1 (a_batcher 2 ten) ∷ row 2 (a_batcher 2 ten) ∷ []) [] []) (batch (7 ∷ []) tenth ∷ batch (8 ∷ []) three_tenths ∷ []) [] three)
-      ≡ no_batch ∷ batch (8 ∷ []) (at 0x3fc9_9999_9999_9999) ∷ []
-  pub clock-rounded : (step_of (lone fifth tenth)).clock ≡ at 0x3fd3_3333_3333_3334
+      ≡ no_batch ∷ batch (8 ∷ []) (at 0x3FC9_9999_9999_9999) ∷ []
+  pub clock-rounded : (step_of (lone fifth tenth)).clock ≡ at 0x3FD3_3333_3333_3334
   -- "refusal 11 is decided here": 11 "the new clock is no time", before what the internal events refuse
   pub clock-stands : end_of (lone (at 0x4060_0000_0000_0000) latest) ≡ Done
   pub clock-past : step_of (lone (at 0x4070_0000_0000_0000) latest)

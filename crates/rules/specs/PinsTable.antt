@@ -110,8 +110,8 @@ pub record Rows : Type 0 where
   pub capacity-largest : of_kind (a_processor (2 ^ 64 - 1)) ≡ ok
   pub capacity-over : of_kind (a_processor (2 ^ 64)) ≡ (2, 0)
   -- 2: "or its batch time is no time"; "an f64 with its sign bit clear and a value of at most 2^60"
-  pub time-latest : of_kind (a_batcher 2 (at 0x43b0_0000_0000_0000)) ≡ ok
-  pub time-above : of_kind (a_batcher 2 (at 0x43b0_0000_0000_0001)) ≡ (2, 0)
+  pub time-latest : of_kind (a_batcher 2 (at 0x43B0_0000_0000_0000)) ≡ ok
+  pub time-above : of_kind (a_batcher 2 (at 0x43B0_0000_0000_0001)) ≡ (2, 0)
   pub time-minus-zero : of_kind (a_batcher 2 minus_zero) ≡ (2, 0)
   pub time-infinite : of_kind (a_batcher 2 never) ≡ (2, 0)
   -- "A stopwatch's three input ports differ."; its output may be one of them

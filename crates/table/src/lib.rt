@@ -81,7 +81,7 @@ fn cells_fit(cells: &[u64], first: usize, end: usize) -> bool
 {
     let mut at = first;
     while at < end {
-        if 0x_fff_f < words::word_at(cells, at) {
+        if 0xFFFF < words::word_at(cells, at) {
             return false;
         }
         at += 1;
@@ -112,10 +112,10 @@ fn setting_in(cells: &[u64], field: u64, omitted: u64) -> u64
 fn processor_of(input: u64, output: u64, capacity: u64) -> Kind
     ensures { result ≡ kind_of (some (Judging.processor_of input output capacity)) }
 {
-    if 0x_fff_f < input {
+    if 0xFFFF < input {
         return Kind::Broken;
     }
-    if 0x_fff_f < output {
+    if 0xFFFF < output {
         return Kind::Broken;
     }
     Kind::Processor(Processor {
@@ -129,10 +129,10 @@ fn processor_of(input: u64, output: u64, capacity: u64) -> Kind
 fn batcher_of(input: u64, output: u64, size: u64, bits: u64) -> Kind
     ensures { result ≡ kind_of (some (Judging.batcher_of input output size bits)) }
 {
-    if 0x_fff_f < input {
+    if 0xFFFF < input {
         return Kind::Broken;
     }
-    if 0x_fff_f < output {
+    if 0xFFFF < output {
         return Kind::Broken;
     }
     if size < 1 {
@@ -155,16 +155,16 @@ fn batcher_of(input: u64, output: u64, size: u64, bits: u64) -> Kind
 fn stopwatch_of(start: u64, stop: u64, ask: u64, output: u64, metric: Metric) -> Kind
     ensures { result ≡ kind_of (some (Judging.stopwatch_of start stop ask output metric)) }
 {
-    if 0x_fff_f < start {
+    if 0xFFFF < start {
         return Kind::Broken;
     }
-    if 0x_fff_f < stop {
+    if 0xFFFF < stop {
         return Kind::Broken;
     }
-    if 0x_fff_f < ask {
+    if 0xFFFF < ask {
         return Kind::Broken;
     }
-    if 0x_fff_f < output {
+    if 0xFFFF < output {
         return Kind::Broken;
     }
     if start == stop {
@@ -386,7 +386,7 @@ fn row_joins(models: &[u64], row: usize, cells: &[u64], greatest: u64) -> bool
     ensures { result ≡ Judging.row_joins models.now row }
 {
     let id = words::word_at(cells, 0);
-    if 0x_fff_f < id {
+    if 0xFFFF < id {
         return false;
     }
     if !is_new(models, row, id, greatest) {

@@ -17,19 +17,19 @@ pub record Table : Type 0 where
   pub plus-zero : Are 0x0000_0000_0000_0000 true true
   pub minus-zero : Are 0x8000_0000_0000_0000 false false
   pub smallest-subnormal : Are 0x0000_0000_0000_0001 true true
-  pub largest-subnormal : Are 0x000f_ffff_ffff_fff_f true true
+  pub largest-subnormal : Are 0x000F_FFFF_FFFF_FFFF true true
   pub minus-subnormal : Are 0x8000_0000_0000_0001 false false
-  pub just-below : Are 0x43af_ffff_ffff_fff_f true true
-  pub two-to-sixty : Are 0x43b0_0000_0000_0000 true true
-  pub just-above : Are 0x43b0_0000_0000_0001 false false
-  pub infinity : Are 0x7ff0_0000_0000_0000 false true
-  pub minus-infinity : Are 0x_fff0_0000_0000_0000 false false
-  pub past-infinity : Are 0x7ff0_0000_0000_0001 false false
-  pub not-a-number : Are 0x7ff8_0000_0000_0000 false false
+  pub just-below : Are 0x43AF_FFFF_FFFF_FFFF true true
+  pub two-to-sixty : Are 0x43B0_0000_0000_0000 true true
+  pub just-above : Are 0x43B0_0000_0000_0001 false false
+  pub infinity : Are 0x7FF0_0000_0000_0000 false true
+  pub minus-infinity : Are 0xFFF0_0000_0000_0000 false false
+  pub past-infinity : Are 0x7FF0_0000_0000_0001 false false
+  pub not-a-number : Are 0x7FF8_0000_0000_0000 false false
   -- -0 equals 0 as a number
   pub zeros : le (f64 0x8000_0000_0000_0000) (f64 0) ≡ true
   -- 0.3 - 0.1 is 0.19999999999999998
-  pub tenths : to_bits binary64 (sub binary64 (f64 0x3fd3_3333_3333_3333) (f64 0x3fb9_9999_9999_999a)) ≡ 0x3fc9_9999_9999_9999
+  pub tenths : to_bits binary64 (sub binary64 (f64 0x3FD3_3333_3333_3333) (f64 0x3FB9_9999_9999_999A)) ≡ 0x3FC9_9999_9999_9999
   -- 2^60 + 128 is a tie, and goes down to the even 2^60: the clock stands still
   pub stands-still : later_of latest (f64 0x4060_0000_0000_0000) ≡ Clock latest
   -- 2^60 + 256 is past the last time

@@ -1,4 +1,4 @@
--- Which bits are a time's: those of at most 0x43b0_0000_0000_0000, which are 2 ^ 60's. A timer's are these and the bits of +infinity. Assumes nothing.
+-- Which bits are a time's: those of at most 0x43B0_0000_0000_0000, which are 2 ^ 60's. A timer's are these and the bits of +infinity. Assumes nothing.
 use Rattle.std.specs.Prelude.{◌≡◌, refl, ◌⊎◌, ◌↔◌, ℕ, zero, suc, ◌+◌, ◌*◌, ◌/◌, ◌%◌, ◌^◌, ◌≤◌, ◌<◌, Bool, true, false, not, ◌&&◌, ◌||◌, cond, pos, T, leb, ltb, eqb, Float}
 use Rattle.std.proofs.Common.{sym, ap, ap₂, ◌∙◌, subst, inl, inr, le_trans, le_of_eq, le_of_lt, not-le_of_lt, eq-or-lt_of_le, le-add_right, add-zero, mul-one, suc-mul, mul_assoc, mul_comm, mul-le-mul_left, mul-le-mul_right, mul-lt-mul_of_pos_right, le_of_mul-le-mul_right, mod-eq_of_lt, mod-lt, div-add-mod', arith, ltb→lt, nltb→le, leb→le, le→leb, eqb→eq, lit≤, lit<, pow_pos, pow_mono, le-leb}
 use Rattle.std.proofs.Math.Nat.{pow-succ', mul-lt-mul_of_pos_left}
@@ -15,10 +15,10 @@ use Rattle.times.specs.Laws.{never-is, timer-clear, time-timer}
 
 -- the bits of 2 ^ 60 and of +infinity
 abbrev pub limit : ℕ
-limit = 0x43b0_0000_0000_0000
+limit = 0x43B0_0000_0000_0000
 
 abbrev pub infinite : ℕ
-infinite = 0x7ff0_0000_0000_0000
+infinite = 0x7FF0_0000_0000_0000
 
 -- the weights of the sign bit and of the exponent's lowest bit
 abbrev sign_bit : ℕ
@@ -174,7 +174,7 @@ bits-clear b h =
     opened b
     ∙ ap₂ (λ (s : Bool) (z : ℕ). of_fields binary64 s (z / leading) (b % leading)) (lt-leb sign_bit b h) (mod-eq_of_lt h)
 
--- ---- a time exactly when the bits are at most 0x43b0_0000_0000_0000
+-- ---- a time exactly when the bits are at most 0x43B0_0000_0000_0000
 pub time-bits : (b : ℕ) → is_time (of_bits binary64 b) ≡ leb b limit
 time-bits b = time-bounded (of_bits binary64 b) (of_bits-fits binary64 b) ∙ elim (below_or b sign_bit) [
   | inl h ↦ ap bounded (bits-clear b h) ∙ fields-bounded (b / leading) (b % leading) (mod-lt b (lit< tt)) ∙ ap (λ (z : ℕ). leb z limit) (div-add-mod' b leading)
@@ -194,7 +194,7 @@ limit-no-nan b h =
     let x = of_bits binary64 b in
     subst (λ (t : Bool). T (not t)) (sym (nan_bits_is binary64 b)) (clear-no-nan x (timer-clear x (time-timer x (subst T (sym (time-bits b)) (le→leb b limit h)))))
 
--- ---- a timer exactly when they are at most that, or 0x7ff0_0000_0000_0000
+-- ---- a timer exactly when they are at most that, or 0x7FF0_0000_0000_0000
 never-read : of_bits binary64 infinite ≡ never
 unfolding of_bits
 never-read = refl

@@ -28,7 +28,7 @@ pub enum Later {
 pub fn never() -> f64
     ensures { result ≡ Time.never }
 {
-    f64::from_bits(0x7ff0_0000_0000_0000)
+    f64::from_bits(0x7FF0_0000_0000_0000)
 }
 
 // The bits of any f64. `to_bits` leaves a NaN's open, so one pattern is fixed for it.
@@ -36,7 +36,7 @@ pub fn bits_of(x: f64) -> u64
     ensures { result ≡ to_bits binary64 x }
 {
     if x != x {
-        return 0x7ff8_0000_0000_0000;
+        return 0x7FF8_0000_0000_0000;
     }
     f64::to_bits(x)
 }
@@ -45,7 +45,7 @@ pub fn bits_of(x: f64) -> u64
 pub fn is_time(x: f64) -> bool
     ensures { result ≡ is_time x }
 {
-    bits_of(x) <= 0x43b0_0000_0000_0000
+    bits_of(x) <= 0x43B0_0000_0000_0000
 }
 
 // Whether x is a time or +infinity.
@@ -62,7 +62,7 @@ pub fn is_timer(x: f64) -> bool
 pub fn time_of_bits(bits: u64) -> TimeOf
     ensures { result ≡ time_of_bits bits }
 {
-    if bits <= 0x43b0_0000_0000_0000 {
+    if bits <= 0x43B0_0000_0000_0000 {
         TimeOf::Time(f64::from_bits(bits))
     } else {
         TimeOf::Bad
@@ -73,7 +73,7 @@ pub fn time_of_bits(bits: u64) -> TimeOf
 pub fn timer_of_bits(bits: u64) -> TimerOf
     ensures { result ≡ timer_of_bits bits }
 {
-    if bits == 0x7ff0_0000_0000_0000 {
+    if bits == 0x7FF0_0000_0000_0000 {
         return TimerOf::Timer(never());
     }
     match time_of_bits(bits) {

@@ -8,7 +8,7 @@ use borrow.Author.Rules.{rules}
 use Rattle.times.proofs.bits_of.Statement.{statement}
 use Rattle.times.proofs.bits_of.Tie as tie
 
-nan-bits : to_bits binary64 nan ≡ 0x7ff8_0000_0000_0000
+nan-bits : to_bits binary64 nan ≡ 0x7FF8_0000_0000_0000
 unfolding to_bits
 nan-bits = refl
 
