@@ -1,4 +1,6 @@
 // A few words of a lent state changed in place: the messages and the clock cleared, a message injected. The caller has checked the state.
+#![tactic(auto)]
+
 ghost use Rattle.std.specs.Prelude.{◌≡◌, ◌+◌, ◌<◌, length, T};
 ghost use Rattle.rules.specs.Calls.{without_messages, at_clock_zero};
 ghost use Rattle.rules.specs.Layout.{written};

@@ -1,4 +1,6 @@
 // What a lent state is asked: status, messages, clock. The caller has checked the state.
+#![tactic(auto)]
+
 ghost use Rattle.std.specs.Prelude.{◌≡◌, ◌*◌, ◌≤◌, ◌<◌, length, T};
 ghost use Rattle.rules.specs.Layout.{laid_down};
 ghost use Rattle.rules.specs.Simulation.{state_at};
@@ -17,7 +19,7 @@ use table::Kind;
 use words::Found;
 
 // 01, "Status", or a refusal.
-#[derive(Drop)]
+#[derive(Clone, Copy)]
 pub enum Status {
     Processor(ProcessorPhase),
     Batcher(BatcherPhase),

@@ -1,4 +1,6 @@
 // The batcher (01, "The four models").
+#![tactic(auto)]
+
 ghost use Rattle.std.specs.Prelude.{◌≡◌, List, ℕ, length, T};
 ghost use Rattle.rules.specs.Base.{every, done};
 ghost use Rattle.rules.specs.Sizes.{is_content};
@@ -11,7 +13,7 @@ ghost use Rattle.batcher.specs.Batching.{batcher_of, fresh, unchanged, kept_as, 
 use events::{Gone, Taken};
 use rules::{Batcher, BatcherPhase, Refusal};
 
-#[derive(Drop)]
+#[derive(Clone, Copy)]
 pub struct BatcherState {
     pub phase: BatcherPhase,
     pub timer: f64,
@@ -19,14 +21,14 @@ pub struct BatcherState {
 }
 
 // What an external event hands back.
-#[derive(Drop)]
+#[derive(Clone, Copy)]
 pub struct BatcherTaken {
     pub next: BatcherState,
     pub answer: Taken,
 }
 
 // What an internal event hands back.
-#[derive(Drop)]
+#[derive(Clone, Copy)]
 pub struct BatcherGone {
     pub next: BatcherState,
     pub answer: Gone,

@@ -1,6 +1,8 @@
 // Reads a bench file into words: rows of the tables, service times and actions; or says which line is wrong, at which column, and what was
 // expected there.
 // The format: docs/BENCH-FILE.md. The rows of the tables: docs/LAYOUT.md.
+#![tactic(auto)]
+
 ghost use Rattle.std.specs.Prelude.{◌≡◌, true, ◌&&◌, ◌/◌, ◌≤◌, ◌<◌, length, ltb, eqb};
 ghost use Rattle.bench_file.specs.Filing.{page_of, put_row, count_of, filed_fine, placed, pages_at, filing, file_in, file_said, next_line, no_rows, ending, mark_span, read_file, page_number, same_page, is_on, left_after, line_of};
 
@@ -9,7 +11,7 @@ use bench_lines::{Fault, Item, Line, Said};
 pub use bench_words::text_length;
 
 // How many rows of each kind there are, and whether `rows` stands in the file.
-#[derive(Drop)]
+#[derive(Clone, Copy)]
 pub struct Counts {
     pub models: usize,
     pub connectors: usize,
@@ -20,7 +22,7 @@ pub struct Counts {
 }
 
 // What a file says. Lines count from 1, and so do the bytes of a line.
-#[derive(Drop)]
+#[derive(Clone, Copy)]
 pub enum Reading {
     Read(Counts),
     Wrong {
@@ -31,7 +33,7 @@ pub enum Reading {
 }
 
 // Where an item's row goes; `rows` is a flag, and no row.
-#[derive(Drop)]
+#[derive(Clone, Copy)]
 pub enum Page {
     Models,
     Connectors,
@@ -41,7 +43,7 @@ pub enum Page {
     Flag,
 }
 
-#[derive(Drop)]
+#[derive(Clone, Copy)]
 struct Filed {
     counts: Counts,
     fault: Fault,

@@ -1,4 +1,6 @@
 // One line of a bench file: its item and the cells of its row, or what was expected and where. The format: docs/BENCH-FILE.md.
+#![tactic(auto)]
+
 ghost use Rattle.std.specs.Prelude.{◌≡◌, ◌<◌, ◌≤◌, length};
 ghost use Rattle.bench_lines.specs.Names.{item_text, word_text, value_text, wanted_text};
 ghost use Rattle.bench_lines.specs.Forms.{start_of, form_of, word_coded, value_coded, fields_in, field_coded, item_named, items};
@@ -10,7 +12,7 @@ ghost use Rattle.bench_lines.specs.declared.Fault.TheVariants as Faults;
 use bench_words::Number;
 
 // What a line can say.
-#[derive(Drop)]
+#[derive(Clone, Copy)]
 pub enum Item {
     Processor,
     Batcher,
@@ -29,7 +31,7 @@ pub enum Item {
 }
 
 // The words that stand between values; a field may have none.
-#[derive(Drop)]
+#[derive(Clone, Copy)]
 pub enum Word {
     Nothing,
     Parent,
@@ -50,7 +52,7 @@ pub enum Word {
 }
 
 // What may stand for a field: nothing more, a number below 2^16, 2^32 or 2^64, a time, a metric.
-#[derive(Drop)]
+#[derive(Clone, Copy)]
 pub enum Value {
     TheEnd,
     AnId,
@@ -61,7 +63,7 @@ pub enum Value {
 }
 
 // What must stand where a line is wrong.
-#[derive(Drop)]
+#[derive(Clone, Copy)]
 pub enum Wanted {
     AnItem,
     TheWord(Word),
@@ -70,20 +72,20 @@ pub enum Wanted {
 }
 
 // What was expected: what must stand there, or the optional word that may stand before it (Nothing: none may).
-#[derive(Drop)]
+#[derive(Clone, Copy)]
 pub struct Expected {
     pub or: Word,
     pub what: Wanted,
 }
 
-#[derive(Drop)]
+#[derive(Clone, Copy)]
 pub enum Fault {
     Fine,
     Wrong(Expected),
 }
 
 // A field: its word, its flag in the row's word 2 if it may be left out (0: it may not), what its value is, and the cell for it.
-#[derive(Drop)]
+#[derive(Clone, Copy)]
 struct Field {
     word: Word,
     flag: u64,
@@ -92,7 +94,7 @@ struct Field {
 }
 
 // What a line says: nothing, an item, or that it is wrong.
-#[derive(Drop)]
+#[derive(Clone, Copy)]
 pub enum Said {
     Nothing,
     Row(Item),
@@ -100,21 +102,21 @@ pub enum Said {
 }
 
 // What a line says, and the column where it stands: that of the item, or of what is wrong. Columns count bytes from 1.
-#[derive(Drop)]
+#[derive(Clone, Copy)]
 pub struct Line {
     pub said: Said,
     pub column: usize,
     pub cells: [u64; 10],
 }
 
-#[derive(Drop)]
+#[derive(Clone, Copy)]
 enum Named {
     Is(Item),
     Nobody,
 }
 
 // How far a line is read, and the optional word that was left out just there.
-#[derive(Drop)]
+#[derive(Clone, Copy)]
 struct Progress {
     cells: [u64; 10],
     at: usize,

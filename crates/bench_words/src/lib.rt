@@ -1,4 +1,6 @@
 // The bytes of a bench file: its lines, a line's words, and the numbers and times that words stand for. The format: docs/BENCH-FILE.md.
+#![tactic(auto)]
+
 ghost use Rattle.std.specs.Prelude.{◌≡◌, suc, ◌+◌, ◌^◌, ◌≤◌, ◌<◌, ◌++◌, length, take, drop};
 ghost use Rattle.bench_words.specs.Splitting.{is_blank, is_plain, span_of, line_span, word_span, word_at};
 ghost use Rattle.bench_words.specs.Numbers.{digit_of, numeral, number_of, has_bits, nines, decimal_of, time_of};
@@ -8,14 +10,14 @@ ghost use Rattle.bench_words.specs.Texts.{text_span, text_in, same};
 const NINES: u64 = 999_999_999_999_999;
 
 // Where a word stands in its line: from `start` to before `end`. Where there is none, the two are equal.
-#[derive(Drop)]
+#[derive(Clone, Copy)]
 pub struct Span {
     pub start: usize,
     pub end: usize,
 }
 
 // What a word stands for.
-#[derive(Drop)]
+#[derive(Clone, Copy)]
 pub enum Number {
     Is(u64),
     Not,

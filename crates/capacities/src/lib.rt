@@ -1,4 +1,6 @@
 // Which Processor rows of a lent table omit `queue_capacity`, and the table with it written out. Layout: docs/LAYOUT.md.
+#![tactic(auto)]
+
 ghost use Rattle.std.specs.Prelude.{◌≡◌};
 ghost use Rattle.rules.specs.Layout.{omits_capacity, omitted_in};
 ghost use Rattle.capacities.specs.Migration.{row_written_out, written_out};

@@ -1,4 +1,6 @@
 // The calls for C, each with the contract that the theorems in specs/ speak of: a call leaves and returns what the chain's definitions say. They only pass on, and are here so that the definitions stay tied to the calls.
+#![tactic(auto)]
+
 ghost use Rattle.std.specs.Prelude.{◌≡◌};
 ghost use Rattle.rules.specs.Layout.{room_in};
 ghost use Rattle.rules.specs.Calls.{InjectInput, Step, StepN, StepUntil, Reset, ResetMessages, ResetGlobalTime};

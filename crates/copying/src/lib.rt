@@ -1,4 +1,6 @@
 // The words of a lent state into the words that a run works on, and its messages into the rows of an output.
+#![tactic(auto)]
+
 ghost use Rattle.std.specs.Prelude.{◌≡◌, ◌+◌, ◌*◌, ◌≤◌, ◌<◌, length};
 ghost use Rattle.rules.specs.Layout.{laid_down};
 ghost use Rattle.rules.specs.Table.{kind_at};

@@ -1,4 +1,6 @@
 // A clock as people read it: in decimal, with at most six places after the point.
+#![tactic(auto)]
+
 ghost use Rattle.std.specs.Prelude.{◌≡◌, ◌*◌, ◌^◌, ◌≤◌, ◌<◌};
 ghost use Rattle.std.specs.Float.{binary64};
 ghost use Rattle.std.specs.Float.Ieee.{of_bits};
@@ -25,7 +27,7 @@ const CUT: u64 = 31;
 const HALF_WORD: u64 = 0x1_0000_0000;
 
 // A number of ticks: `whole` before the point, and the six places after it, below 1,000,000.
-#[derive(Drop)]
+#[derive(Clone, Copy)]
 pub struct Micros {
     pub whole: u64,
     pub micros: u64,

@@ -4,7 +4,7 @@ ghost use Rattle.std.specs.Prelude.{◌≤◌, length};
 use bench_words::Number;
 
 // How many numbers a line begins with, and where they end: at the `#` before a name.
-#[derive(Drop)]
+#[derive(Clone, Copy)]
 pub(crate) struct Line {
     pub(crate) count: usize,
     pub(crate) end: usize,

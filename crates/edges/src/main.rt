@@ -1,4 +1,6 @@
 // Runs the edge cases of `atoms`, `marks`, `words` and `table`: `stdin` has a line for each, whose first lines say how they are written. What comes out is printed behind the case's name; the answers of document 01 and of docs/LAYOUT.md stand in `stdout`.
+#![tactic(auto)]
+
 mod batchers;
 mod lines;
 mod processors;

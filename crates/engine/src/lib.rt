@@ -1,4 +1,6 @@
 // A run in place: step after step, and the rows laid down.
+#![tactic(auto)]
+
 ghost use Rattle.std.specs.Prelude.{◌≡◌, ◌++◌, ℕ, ◌+◌, ◌*◌, ◌≤◌, length, take, drop, T};
 ghost use Rattle.times.specs.Time.{is_timer};
 ghost use Rattle.rules.specs.Layout.{room_in, laid_down};
@@ -16,7 +18,7 @@ ghost use Rattle.engine.specs.Telling.{Told};
 use rerunning::Next;
 use rules::Refusal;
 
-#[derive(Drop)]
+#[derive(Clone, Copy)]
 pub enum End {
     Done,
     Reached,
@@ -25,7 +27,7 @@ pub enum End {
 }
 
 // The number of completed steps, the number of rows laid down, and how the run ended.
-#[derive(Drop)]
+#[derive(Clone, Copy)]
 pub struct Report {
     pub steps: u64,
     pub written: usize,

@@ -1,4 +1,6 @@
 // What the atoms' events answer, and the service list that they read.
+#![tactic(auto)]
+
 ghost use Rattle.std.specs.Prelude.{◌≡◌};
 ghost use Rattle.rules.specs.Models as Models;
 ghost use Rattle.events.specs.Meaning.{service_of};
@@ -6,7 +8,7 @@ ghost use Rattle.events.specs.Meaning.{service_of};
 use rules::Refusal;
 
 // What became of what came.
-#[derive(Drop)]
+#[derive(Clone, Copy)]
 pub enum Taken {
     Started,
     Kept,
@@ -17,13 +19,13 @@ pub enum Taken {
 }
 
 // What goes out: so many jobs from the front of the queue.
-#[derive(Drop)]
+#[derive(Clone, Copy)]
 pub enum Gone {
     Out(u64),
     Refused(Refusal),
 }
 
-#[derive(Drop)]
+#[derive(Clone, Copy)]
 pub enum Service {
     // The time, and the place after it.
     Time(f64, u64),

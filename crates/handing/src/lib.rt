@@ -1,4 +1,6 @@
 // A message out of a component, in its Coupled: parked along internal couplings, then put out along external output couplings (01, "Coupled (001)").
+#![tactic(auto)]
+
 ghost use Rattle.std.specs.Prelude.{◌≡◌, List, ◌+◌, ◌≤◌, ◌<◌, length, Float};
 ghost use Rattle.rules.specs.Base.{each};
 ghost use Rattle.rules.specs.Table.{kind_at, coupled};

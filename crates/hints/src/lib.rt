@@ -1,5 +1,7 @@
 // What a bench program warns of: an end of a connector, a coupling or an injection that names no model, or a port that the model does not have.
 // The table is as it is lent; layout: docs/LAYOUT.md.
+#![tactic(auto)]
+
 ghost use Rattle.std.specs.Prelude.{◌≡◌, [], ◌∷◌, ◌/◌, length};
 ghost use Rattle.rules.specs.Valid.{member};
 ghost use Rattle.words.specs.Search.{first_from};
@@ -12,14 +14,14 @@ use table::{Kind, Parent};
 use words::{Cell, Found, Key};
 
 // A port that takes messages, or one that puts them out.
-#[derive(Drop)]
+#[derive(Clone, Copy)]
 pub enum Side {
     In,
     Out,
 }
 
 // What an end names: a port that is there, no model, or no port of the model.
-#[derive(Drop)]
+#[derive(Clone, Copy)]
 pub enum Known {
     Known,
     NoModel,

@@ -1,4 +1,6 @@
 // Refusal 20 of a lent state: whether the buffer holds a simulation. Layout: docs/LAYOUT.md.
+#![tactic(auto)]
+
 ghost use Rattle.std.specs.Prelude.{◌≡◌, ◌+◌, ◌*◌, ◌≤◌, ◌<◌, length, eqb};
 ghost use Rattle.std.specs.Float.{binary64};
 ghost use Rattle.std.specs.Float.Ieee.{of_bits};
@@ -22,7 +24,7 @@ ghost use Rattle.holding.specs.Fitting.{queue_fits, row_fits, next_if, row_end, 
 use table::Verdict;
 
 // Where the next row's own words begin, or that a row breaks a rule.
-#[derive(Drop)]
+#[derive(Clone, Copy)]
 enum Next {
     At(usize),
     Bad,

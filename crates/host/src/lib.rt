@@ -1,4 +1,6 @@
 // The calls for C: include/jambthrush.h says how to use them. Each answers 0 or the number of the refusal.
+#![tactic(auto)]
+
 ghost use Rattle.std.specs.Prelude.{◌≡◌, ◌/◌, length};
 ghost use Rattle.rules.specs.Intake.{intake, taken_in};
 ghost use Rattle.rules.specs.Layout.{lent, omitted_in, room_in, laid_down};

@@ -1,4 +1,6 @@
 // What a call left in lent words, against what was told of it.
+#![tactic(auto)]
+
 ghost use Rattle.std.specs.Prelude.{◌≡◌, not};
 ghost use Rattle.judging.specs.Seeing.{is_same, alike, untouched, answer_seen, state_seen};
 
@@ -6,7 +8,7 @@ ghost use Rattle.judging.specs.Seeing.{is_same, alike, untouched, answer_seen, s
 pub const BEFORE: u64 = 0xa5a5_a5a5_a5a5_a5a5;
 
 // Where a call differs first.
-#[derive(Drop)]
+#[derive(Clone, Copy)]
 pub enum Seen {
     Same,
     Answer(usize),

@@ -1,4 +1,6 @@
 // A run on a lent state: in words of its own, as many as the rows in use need, and written back when the run has its result. The caller has checked the state.
+#![tactic(auto)]
+
 ghost use Rattle.std.specs.Prelude.{◌≡◌, ◌+◌, ◌≤◌, length, replicate, T};
 ghost use Rattle.times.specs.Time.{is_timer};
 ghost use Rattle.rules.specs.Layout.{room_in};
@@ -16,7 +18,7 @@ use engine::{End, Report};
 use rules::Refusal;
 
 // What to run: so many steps; until the clock is no longer below a time, in at most so many steps; the same with a time that may be infinite.
-#[derive(Drop)]
+#[derive(Clone, Copy)]
 pub enum Order {
     Steps(u64),
     Until(f64, u32),

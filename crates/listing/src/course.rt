@@ -22,7 +22,7 @@ pub(crate) const CUT: u64 = 6;
 // No trace is asked for, in place of its descriptor.
 pub(crate) const NO_TRACE: i32 = -1;
 
-#[derive(Drop)]
+#[derive(Clone, Copy)]
 pub(crate) struct Course {
     // Of the next step, counted from 1 through the whole file; of the next block, from 0, where a trace is read.
     pub number: u64,
@@ -42,7 +42,7 @@ pub(crate) struct Course {
 }
 
 // What a person asked for: the messages' rows, clocks in decimal, no warnings, the descriptor of a trace.
-#[derive(Drop)]
+#[derive(Clone, Copy)]
 pub(crate) struct Settings {
     pub rows: bool,
     pub decimal: bool,

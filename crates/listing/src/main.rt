@@ -2,6 +2,8 @@
 // format: docs/BENCH-FILE.md. The second argument has the letter d for clocks in decimal, q for no warnings, t for a trace of the rows in
 // the file that the third argument names. With the letter r it is a trace that is read, and its rows are printed, from the block on whose
 // number is the third argument.
+#![tactic(auto)]
+
 mod course;
 mod input;
 mod out;

@@ -10,7 +10,7 @@ use trace_blocks::Judged;
 const MOST_BLOCKS: u64 = 0x20_0000_0000_0000;
 
 // What reading has come to: as much as there is room for, or the file's end, after so many bytes.
-#[derive(Drop)]
+#[derive(Clone, Copy)]
 enum Filled {
     Full,
     Ends(usize),

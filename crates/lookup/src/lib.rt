@@ -1,4 +1,6 @@
 // The table inside a lent state: its rows, couplings and connectors, looked up where they stand. Layout: docs/LAYOUT.md.
+#![tactic(auto)]
+
 ghost use Rattle.std.specs.Prelude.{◌≡◌, ◌-◌, ◌<◌, length, eqb};
 ghost use Rattle.rules.specs.Base.{those};
 ghost use Rattle.rules.specs.Table.{id_at, kind_at, row_at, is_coupled, is_parent, is_parentless, components};

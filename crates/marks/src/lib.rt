@@ -1,4 +1,6 @@
 // A stopwatch's jobs in lent words: 64 places for names, 64 for starts, 64 for stops. A mark that is not made is infinite.
+#![tactic(auto)]
+
 ghost use Rattle.std.specs.Prelude.{◌≡◌, ◌+◌, ◌-◌, ◌<◌, ◌≤◌, length, nat_eq, slice_index};
 ghost use Rattle.rules.specs.Models.{better};
 ghost use Rattle.words.specs.Search.{first_from};
@@ -10,13 +12,13 @@ use rules::Metric;
 use times::{TimeOf, TimerOf};
 use words::{Cell, Found, Key};
 
-#[derive(Drop)]
+#[derive(Clone, Copy)]
 pub enum Mark {
     Start,
     Stop,
 }
 
-#[derive(Drop)]
+#[derive(Clone, Copy)]
 pub enum Marking {
     // So many names are held now.
     Held(u64),
@@ -26,14 +28,14 @@ pub enum Marking {
     CutShort,
 }
 
-#[derive(Drop)]
+#[derive(Clone, Copy)]
 pub enum Fetched {
     Job(u64),
     Nothing,
     CutShort,
 }
 
-#[derive(Drop)]
+#[derive(Clone, Copy)]
 pub enum MeanOf {
     Mean(f64),
     Nothing,
@@ -41,21 +43,21 @@ pub enum MeanOf {
 }
 
 // How long a job lasted.
-#[derive(Drop)]
+#[derive(Clone, Copy)]
 enum Lasting {
     Lasted(f64),
     Open,
 }
 
 // The best job so far.
-#[derive(Drop)]
+#[derive(Clone, Copy)]
 struct Best {
     name: u64,
     length: f64,
 }
 
 // The durations so far: their sum and their number.
-#[derive(Drop)]
+#[derive(Clone, Copy)]
 struct Total {
     sum: f64,
     count: u64,

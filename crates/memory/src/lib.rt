@@ -1,4 +1,6 @@
 // The changing part of a lent state, in place: a row's head, read and written. Layout: docs/LAYOUT.md.
+#![tactic(auto)]
+
 ghost use Rattle.std.specs.Prelude.{◌≡◌, ◌+◌, ◌≤◌, length, set, T};
 ghost use Rattle.std.specs.Float.{binary64};
 ghost use Rattle.std.specs.Float.Ieee.{of_bits};
@@ -10,14 +12,14 @@ use events::Taken;
 use rules::Refusal;
 
 // What an external event in place answers.
-#[derive(Drop)]
+#[derive(Clone, Copy)]
 pub enum Answer {
     Done,
     Refused(Refusal),
 }
 
 // What an internal event in place answers: so many messages were put out.
-#[derive(Drop)]
+#[derive(Clone, Copy)]
 pub enum Put {
     Out(usize),
     Refused(Refusal),

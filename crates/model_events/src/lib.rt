@@ -1,4 +1,6 @@
 // Events of models in place, Coupleds among them, and whether a model is due (01, "Coupled (001)").
+#![tactic(auto)]
+
 ghost use Rattle.std.specs.Prelude.{◌≡◌, false, ℕ, suc, ◌<◌, length};
 ghost use Rattle.rules.specs.Base.{some_of};
 ghost use Rattle.rules.specs.Table.{id_at, kind_at, is_coupled, coupled, components};

@@ -1,1 +1,2 @@
 // Computed cases only: specs/ holds them.
+#![tactic(auto)]

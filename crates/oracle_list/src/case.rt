@@ -4,7 +4,7 @@ ghost use Rattle.std.specs.Prelude.{◌≤◌, length};
 use crate::{calls, lines, say, sheets};
 use judging::Seen;
 
-#[derive(Drop)]
+#[derive(Clone, Copy)]
 pub(crate) struct Replayed {
     pub(crate) calls: u64,
     pub(crate) differs: bool,

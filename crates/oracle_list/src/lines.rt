@@ -4,7 +4,7 @@ ghost use Rattle.std.specs.Prelude.{◌≤◌, length};
 use bench_words::Number;
 
 // How many numbers a line has, 0 where it is none of the list's, and where the next line begins.
-#[derive(Drop)]
+#[derive(Clone, Copy)]
 pub(crate) struct Line {
     pub(crate) count: usize,
     pub(crate) next: usize,

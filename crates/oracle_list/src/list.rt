@@ -3,7 +3,7 @@ use crate::case::Replayed;
 use crate::{case, say};
 
 // How many cases and calls were replayed, how many cases differ, and where the last of them ends in its piece.
-#[derive(Drop)]
+#[derive(Clone, Copy)]
 pub(crate) struct Total {
     pub(crate) cases: u64,
     pub(crate) calls: u64,

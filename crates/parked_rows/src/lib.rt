@@ -1,4 +1,6 @@
 // A Coupled's parked messages in place: one more parked, the list emptied. Layout: docs/LAYOUT.md.
+#![tactic(auto)]
+
 ghost use Rattle.std.specs.Prelude.{◌≡◌, ◌<◌};
 ghost use Rattle.rules.specs.Table as Table;
 ghost use Rattle.memory.specs.Words.{place_in, begin_in, Own};

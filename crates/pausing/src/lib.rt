@@ -1,4 +1,6 @@
 // A run that is paused: two calls of jt_step_n on one state buffer and one output, proved to answer and to leave what one call does.
+#![tactic(auto)]
+
 ghost use Rattle.std.specs.Prelude.{◌+◌, ◌<◌, ◌^◌, ◌≡◌};
 ghost use Rattle.storing.specs.State.{over};
 ghost use Rattle.host.specs.Numbers.{reported};

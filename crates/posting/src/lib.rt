@@ -1,4 +1,6 @@
 // A new simulation laid into a lent state: `post`, and what `put` leaves. Layout: docs/LAYOUT.md.
+#![tactic(auto)]
+
 ghost use Rattle.std.specs.Prelude.{◌≡◌, [], ◌∷◌, ◌++◌, ◌+◌, ◌*◌, ◌-◌, ◌/◌, ◌≤◌, length, take};
 ghost use Rattle.rules.specs.Intake.{intake, taken_in};
 ghost use Rattle.rules.specs.Layout.{lent};

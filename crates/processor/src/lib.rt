@@ -1,4 +1,6 @@
 // The processor (01, "The four models").
+#![tactic(auto)]
+
 ghost use Rattle.std.specs.Prelude.{◌≡◌, List, [], ℕ, length, T, Float};
 ghost use Rattle.rules.specs.Base.{every};
 ghost use Rattle.rules.specs.declared.ProcessorPhase.TheVariants as working;
@@ -12,7 +14,7 @@ ghost use Rattle.processor.specs.Processing.{processor_of, fresh, unchanged, res
 use events::{Gone, Service, Taken};
 use rules::{Processor, ProcessorPhase, Refusal};
 
-#[derive(Drop)]
+#[derive(Clone, Copy)]
 pub struct ProcessorState {
     pub phase: ProcessorPhase,
     pub timer: f64,
@@ -20,7 +22,7 @@ pub struct ProcessorState {
 }
 
 // What an external event hands back: the next state, the next place in the service list, what became of the job.
-#[derive(Drop)]
+#[derive(Clone, Copy)]
 pub struct ProcessorTaken {
     pub next: ProcessorState,
     pub place: u64,
@@ -28,7 +30,7 @@ pub struct ProcessorTaken {
 }
 
 // What an internal event hands back.
-#[derive(Drop)]
+#[derive(Clone, Copy)]
 pub struct ProcessorGone {
     pub next: ProcessorState,
     pub place: u64,

@@ -1,4 +1,6 @@
 // The processor's and the batcher's events in place: the row's state is read from its words, and written there. Layout: docs/LAYOUT.md.
+#![tactic(auto)]
+
 ghost use Rattle.std.specs.Prelude.{◌≡◌, List, ℕ, ◌+◌, ◌≤◌, length, take, drop, T, Float};
 ghost use Rattle.std.specs.Float.{binary64};
 ghost use Rattle.std.specs.Float.Ieee.{of_bits};
@@ -23,7 +25,7 @@ use processor::ProcessorState;
 use rules::{Batcher, BatcherPhase, Processor, ProcessorPhase};
 
 // What of a row's state stands in its head, and the place in the service list.
-#[derive(Drop)]
+#[derive(Clone, Copy)]
 struct Head {
     phase: u64,
     timer: f64,

@@ -1,4 +1,6 @@
 // Why a table is refused: the first rule that intake's bad row breaks, in the order in which a person looks. The layout: docs/LAYOUT.md.
+#![tactic(auto)]
+
 ghost use Rattle.std.specs.Prelude.{◌≡◌, ◌-◌};
 ghost use Rattle.words.specs.Search.{next_row};
 ghost use Rattle.table.specs.Judging.{setting_in};
@@ -11,7 +13,7 @@ use times::TimeOf;
 use words::{Cell, Found, Key};
 
 // The rule that is broken. A number is a row of the models, or a word of the bad row, counted from 0.
-#[derive(Drop)]
+#[derive(Clone, Copy)]
 pub enum Reason {
     NoReason,
     ManyModels,

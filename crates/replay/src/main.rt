@@ -1,4 +1,6 @@
 // The bench's own run, on lent words and by value: what each step answers, and every word of the state that is not 0. The words that document 01's rules ask for stand in `stdout`.
+#![tactic(auto)]
+
 mod say;
 
 use memory::Answer;

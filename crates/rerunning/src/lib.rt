@@ -1,4 +1,6 @@
 // One step of a run in place; a refused step is undone by running the completed ones again from the lent state.
+#![tactic(auto)]
+
 ghost use Rattle.std.specs.Prelude.{◌≡◌, ℕ, ◌+◌, ◌≤◌, length, T};
 ghost use Rattle.times.specs.Time.{is_timer};
 ghost use Rattle.rules.specs.Base.{done};
@@ -13,7 +15,7 @@ use rules::Refusal;
 use stepping::Stepped;
 
 // One step of a run: so many messages are to be collected, or the run ends.
-#[derive(Drop)]
+#[derive(Clone, Copy)]
 pub enum Next {
     On(usize),
     Reached,

@@ -1,4 +1,6 @@
 // The timers of all rows: the least of them, and what an advance leaves of them (01, "The step (000)", 2 and 3).
+#![tactic(auto)]
+
 ghost use Rattle.std.specs.Prelude.{◌≡◌, ◌-◌, ◌<◌, length, T};
 ghost use Rattle.times.specs.Time.{is_time, is_timer};
 ghost use Rattle.rules.specs.Table.{kind_at};

@@ -1,10 +1,12 @@
 // The shared types of document 01: refusals, phases, metric, message, and what a model's row says of it.
 // Their rules are definitions in specs/.
+#![tactic(auto)]
+
 ghost use Rattle.std.specs.Prelude.{◌≡◌};
 ghost use Rattle.rules.specs.Names as Names;
 
 // 01, "Refusal numbers", and 14 of 02's A1, in the order of their numbers.
-#[derive(Drop)]
+#[derive(Clone, Copy)]
 pub enum Refusal {
     TooLarge,
     BadRow,
@@ -23,26 +25,26 @@ pub enum Refusal {
     BadState,
 }
 
-#[derive(Drop)]
+#[derive(Clone, Copy)]
 pub enum ProcessorPhase {
     Passive,
     Active,
 }
 
-#[derive(Drop)]
+#[derive(Clone, Copy)]
 pub enum BatcherPhase {
     Passive,
     Batching,
     Release,
 }
 
-#[derive(Drop)]
+#[derive(Clone, Copy)]
 pub enum StopwatchPhase {
     Passive,
     JobFetch,
 }
 
-#[derive(Drop)]
+#[derive(Clone, Copy)]
 pub enum Metric {
     Minimum,
     Maximum,
@@ -53,14 +55,14 @@ pub const OMITTED_CAPACITY: u64 = 32;
 
 // What the rows of the three atoms say: their ports, and their settings, named as in the Rust.
 // A stopwatch is asked for its metric at the port `ask`.
-#[derive(Drop)]
+#[derive(Clone, Copy)]
 pub struct Processor {
     pub input: u16,
     pub output: u16,
     pub queue_capacity: u64,
 }
 
-#[derive(Drop)]
+#[derive(Clone, Copy)]
 pub struct Batcher {
     pub input: u16,
     pub output: u16,
@@ -68,7 +70,7 @@ pub struct Batcher {
     pub max_batch_time: f64,
 }
 
-#[derive(Drop)]
+#[derive(Clone, Copy)]
 pub struct Stopwatch {
     pub start: u16,
     pub stop: u16,
@@ -77,7 +79,7 @@ pub struct Stopwatch {
     pub metric: Metric,
 }
 
-#[derive(Drop)]
+#[derive(Clone, Copy)]
 pub struct Message {
     pub source_id: u16,
     pub source_port: u16,

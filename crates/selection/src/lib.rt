@@ -1,5 +1,7 @@
 // Selection in a lent table: the connectors and couplings that match, the components, each in order.
 // A search says the first place from a given one on. Searched on from the place after, it gives all of them in order.
+#![tactic(auto)]
+
 ghost use Rattle.std.specs.Prelude.{◌≡◌, ◌+◌, ◌-◌, ◌<◌, length};
 ghost use Rattle.table.specs.Passed.{connector_of};
 ghost use Rattle.words.specs.Search.{first_from, next_row};
@@ -9,21 +11,21 @@ ghost use Rattle.selection.specs.SelectingLaws.{coupling_key, child_at};
 use words::{Cell, Found, Key};
 
 // A component's id, or a model's, with a port of it.
-#[derive(Drop)]
+#[derive(Clone, Copy)]
 pub struct Target {
     pub id: u64,
     pub port: u64,
 }
 
 // A connector that matches: its place, and where it leads. Or there is none.
-#[derive(Drop)]
+#[derive(Clone, Copy)]
 pub enum Link {
     At(usize, Target),
     Nothing,
 }
 
 // What a look at one connector shows: it matches, and leads there; or it is another.
-#[derive(Drop)]
+#[derive(Clone, Copy)]
 enum Seen {
     To(Target),
     Other,

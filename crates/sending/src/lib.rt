@@ -1,4 +1,6 @@
 // Messages put out by a model without parent go along every connector that matches (01, "The step (000)", 4).
+#![tactic(auto)]
+
 ghost use Rattle.std.specs.Prelude.{◌≡◌, ◌+◌, ◌≤◌, ◌<◌, [], ◌∷◌, length, T};
 ghost use Rattle.times.specs.Time.{is_time};
 ghost use Rattle.rules.specs.Base.{each};

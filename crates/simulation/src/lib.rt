@@ -1,4 +1,6 @@
 // The calls on a simulation that the caller lends as words, and by value (value.rt). 20 first, in every call.
+#![tactic(auto)]
+
 ghost use Rattle.std.specs.Prelude.{◌≡◌};
 ghost use Rattle.rules.specs.Layout.{room_in};
 ghost use Rattle.rules.specs.Calls as Calls;
@@ -18,14 +20,14 @@ mod value;
 pub use value::{Changed, Ran, Simulation};
 
 // How many messages are active, or a refusal.
-#[derive(Drop)]
+#[derive(Clone, Copy)]
 pub enum Listing {
     Count(usize),
     Refused(Refusal),
 }
 
 // The clock, or a refusal.
-#[derive(Drop)]
+#[derive(Clone, Copy)]
 pub enum Clock {
     Time(f64),
     Refused(Refusal),

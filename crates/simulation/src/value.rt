@@ -14,20 +14,20 @@ use engine::Report;
 use memory::Answer;
 use rules::Message;
 
-#[derive(Drop)]
+#[derive(Clone, Copy)]
 pub struct Simulation {
     pub words: [u64; 17286],
 }
 
 // The next simulation, and whether the call was refused.
-#[derive(Drop)]
+#[derive(Clone, Copy)]
 pub struct Changed {
     pub simulation: Simulation,
     pub answer: Answer,
 }
 
 // The simulation that a run leaves, and its report.
-#[derive(Drop)]
+#[derive(Clone, Copy)]
 pub struct Ran {
     pub simulation: Simulation,
     pub report: Report,

@@ -1,5 +1,7 @@
 // The step (000) in place: messages taken, the advance, the timers, the turns of the models without parent, the messages sent.
 // The words hold how many messages are active, the clock, the place in the service list, the rows, and from `active` on the messages; after these, room for what events put out.
+#![tactic(auto)]
+
 ghost use Rattle.std.specs.Prelude.{◌≡◌, ◌+◌, ◌≤◌, ◌<◌, length, T};
 ghost use Rattle.times.specs.Time.{is_time};
 ghost use Rattle.rules.specs.Step as Step;
@@ -18,7 +20,7 @@ use times::{Later, TimeOf};
 use words::Found;
 
 // What a step in place answers. Refused halfway, the words hold no simulation that is to be kept.
-#[derive(Drop)]
+#[derive(Clone, Copy)]
 pub enum Stepped {
     Done,
     Untouched(Refusal),

@@ -1,4 +1,6 @@
 // The stopwatch (01, "The four models"). Its jobs, with their marks, stand in lent words (crate `marks`).
+#![tactic(auto)]
+
 ghost use Rattle.std.specs.Prelude.{◌≡◌};
 ghost use Rattle.stopwatch.specs.Watching.{fresh, unchanged, quiet, fits_in, marking, external_in, fetching, internal_in, external_call_in, internal_call_in, Took, Went};
 
@@ -6,7 +8,7 @@ use events::Taken;
 use marks::{Fetched, Mark, Marking};
 use rules::{Refusal, Stopwatch, StopwatchPhase};
 
-#[derive(Drop)]
+#[derive(Clone, Copy)]
 pub struct StopwatchState {
     pub phase: StopwatchPhase,
     pub timer: f64,
@@ -14,14 +16,14 @@ pub struct StopwatchState {
 }
 
 // What an external event hands back.
-#[derive(Drop)]
+#[derive(Clone, Copy)]
 pub struct StopwatchTaken {
     pub next: StopwatchState,
     pub answer: Taken,
 }
 
 // What goes out: the name of a job.
-#[derive(Drop)]
+#[derive(Clone, Copy)]
 pub enum Named {
     Job(u64),
     Nothing,
@@ -29,7 +31,7 @@ pub enum Named {
 }
 
 // What an internal event hands back.
-#[derive(Drop)]
+#[derive(Clone, Copy)]
 pub struct StopwatchGone {
     pub next: StopwatchState,
     pub answer: Named,

@@ -1,4 +1,6 @@
 // How long a lent state is.
+#![tactic(auto)]
+
 ghost use Rattle.std.specs.Prelude.{◌≡◌};
 ghost use Rattle.storing.specs.State.{words_for};
 

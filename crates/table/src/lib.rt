@@ -1,4 +1,6 @@
 // The lent table: readers of its rows, and intake (refusals 1, 2 and 3, with the row). Layout: docs/LAYOUT.md.
+#![tactic(auto)]
+
 ghost use Rattle.std.specs.Prelude.{◌≡◌, true, not, ◌/◌, ◌≤◌, ◌<◌, length, take, drop, eqb};
 ghost use Rattle.std.proofs.Math.Option.{some};
 ghost use Rattle.rules.specs.Layout as Layout;
@@ -13,7 +15,7 @@ use times::TimeOf;
 use words::{Cell, Found, Key};
 
 // What intake says of a table, with the first bad row, counted from 0 in its own slice.
-#[derive(Drop)]
+#[derive(Clone, Copy)]
 pub enum Verdict {
     TooLarge,
     BadRow(usize),
@@ -23,7 +25,7 @@ pub enum Verdict {
 }
 
 // What a model row is, with what it says; `Broken` where its kind or a field of its kind breaks a rule.
-#[derive(Drop)]
+#[derive(Clone, Copy)]
 pub enum Kind {
     Processor(Processor),
     Batcher(Batcher),
@@ -32,14 +34,14 @@ pub enum Kind {
     Broken,
 }
 
-#[derive(Drop)]
+#[derive(Clone, Copy)]
 pub enum Parent {
     Of(u64),
     Nobody,
 }
 
 // The parts of a table, each with rules of its own.
-#[derive(Drop)]
+#[derive(Clone, Copy)]
 enum Part {
     Models,
     Connectors,

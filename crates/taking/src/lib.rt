@@ -1,4 +1,6 @@
 // The active messages are taken: by each model without parent in row order, in list order (01, "The step (000)", 1).
+#![tactic(auto)]
+
 ghost use Rattle.std.specs.Prelude.{◌≡◌, ◌+◌, ◌-◌, ◌≤◌, ◌<◌, length};
 ghost use Rattle.rules.specs.Step as Step;
 ghost use Rattle.rules.specs.Ends.{All};

@@ -1,4 +1,6 @@
 // Times: an `f64` with its sign bit clear and a value of at most 2^60. A timer is a time or +infinity.
+#![tactic(auto)]
+
 ghost use Rattle.std.specs.Prelude.{◌≡◌};
 ghost use Rattle.std.specs.Float.{binary64};
 ghost use Rattle.std.specs.Float.Ieee.{sub, to_bits};
@@ -6,19 +8,19 @@ ghost use Rattle.times.specs.Time as Time;
 ghost use Rattle.times.specs.Time.{is_time, is_timer, least_of};
 ghost use Rattle.times.specs.Answers.{time_of_bits, timer_of_bits, later_of};
 
-#[derive(Drop)]
+#[derive(Clone, Copy)]
 pub enum TimeOf {
     Time(f64),
     Bad,
 }
 
-#[derive(Drop)]
+#[derive(Clone, Copy)]
 pub enum TimerOf {
     Timer(f64),
     NoTimer,
 }
 
-#[derive(Drop)]
+#[derive(Clone, Copy)]
 pub enum Later {
     Clock(f64),
     Overflow,

@@ -1,5 +1,7 @@
 // One block of a trace on disk (docs/TRACE.md), both ways. Two words of 32 bits, low word first, are eight bytes, the lowest first:
 // the code goes through a block by such pairs.
+#![tactic(auto)]
+
 ghost use Rattle.std.specs.Prelude.{◌≡◌, [], ◌∷◌, map, ◌+◌, ◌-◌, ◌*◌, ◌/◌, ◌%◌, ◌≤◌, ◌<◌, length, leb, eqb, true, ◌||◌};
 ghost use Rattle.rules.specs.Base.{hold, every, from};
 ghost use Rattle.words.specs.Laying.{zeros, laid};
@@ -7,7 +9,7 @@ ghost use Rattle.trace_blocks.specs.Blocks.{word_limit, is_kind, word_bytes, byt
 ghost use Rattle.trace_blocks.specs.Pairs.{pair_at, numbers_out, count_out};
 
 // What a kind of block says: numbers a row, rows a block at most, and word 126.
-#[derive(Drop)]
+#[derive(Clone, Copy)]
 pub struct BlockKind {
     pub width: usize,
     pub most: usize,
@@ -15,7 +17,7 @@ pub struct BlockKind {
 }
 
 // What a block is told to be: so many rows, or no block of that kind.
-#[derive(Drop)]
+#[derive(Clone, Copy)]
 pub enum Judged {
     Rows(usize),
     Bad,

@@ -1,4 +1,6 @@
 // A trace on disk (docs/TRACE.md): rows as blocks of 512 bytes, and the rows of a file from a block on.
+#![tactic(auto)]
+
 ghost use Rattle.std.specs.Prelude.{◌≡◌, true, ◌+◌, ◌-◌, ◌*◌, ◌/◌, ◌%◌, ◌≤◌, min, length};
 ghost use Rattle.words.specs.Laying.{over};
 ghost use Rattle.trace_blocks.specs.Blocks.{six, is_kind};
@@ -9,14 +11,14 @@ use rules::Refusal;
 use trace_blocks::{BlockKind, Judged};
 
 // What a writer answers: how many bytes the blocks have.
-#[derive(Drop)]
+#[derive(Clone, Copy)]
 pub enum Written {
     Bytes(usize),
     Refused(Refusal),
 }
 
 // What a reader answers: how many rows; the first bad block's number (14); or that the rows do not fit (13).
-#[derive(Drop)]
+#[derive(Clone, Copy)]
 pub enum Read {
     Rows(usize),
     BadBlock(u64),

@@ -1,4 +1,6 @@
 // A Coupled's parked messages go to their components: in component order, then parked order (01, "Coupled (001)").
+#![tactic(auto)]
+
 ghost use Rattle.std.specs.Prelude.{◌≡◌, ◌+◌, ◌-◌, ◌≤◌, ◌<◌, length};
 ghost use Rattle.rules.specs.Table.{id_at, kind_at, coupled, components};
 ghost use Rattle.rules.specs.Step as Step;

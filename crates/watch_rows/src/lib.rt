@@ -1,4 +1,6 @@
 // The stopwatch's events in place: the row's state is read from its words, and written there. Layout: docs/LAYOUT.md.
+#![tactic(auto)]
+
 ghost use Rattle.std.specs.Prelude.{◌≡◌, List, ◌+◌, ◌≤◌, ◌<◌, length, set, T, Float};
 ghost use Rattle.std.specs.Float.{binary64};
 ghost use Rattle.std.specs.Float.Ieee.{of_bits};

@@ -1,23 +1,25 @@
 // Lent words: a queue that stands in the first of them, and the search for a row among rows of words.
+#![tactic(auto)]
+
 ghost use Rattle.std.specs.Prelude.{◌≡◌, true, ◌+◌, ◌-◌, ◌/◌, ◌≤◌, ◌<◌, length, get_or, set, take, drop, eqb, ◌++◌};
 ghost use Rattle.words.specs.Queue.{cleared, moved_up};
 ghost use Rattle.words.specs.Search.{lesser_of, in_row, matches, next_row};
 
-#[derive(Drop)]
+#[derive(Clone, Copy)]
 pub enum Found {
     At(usize),
     Nothing,
 }
 
 // A cell of a row, and the word that must stand in it.
-#[derive(Drop)]
+#[derive(Clone, Copy)]
 pub struct Cell {
     pub at: usize,
     pub value: u64,
 }
 
 // What a row is looked for by. Where fewer than four cells matter, one is said again.
-#[derive(Drop)]
+#[derive(Clone, Copy)]
 pub struct Key {
     pub first: Cell,
     pub second: Cell,
