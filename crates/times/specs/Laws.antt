@@ -3,7 +3,7 @@ use Rattle.std.specs.Prelude.{◌≡◌, refl, ◌⊎◌, ◌↔◌, Bool, true,
 use Rattle.std.proofs.Common.{sym, ap, ◌∙◌, subst, inl, inr, le_trans, le_of_eq, add_comm, zero-mul, mul_comm, mul-pos, T_not}
 use Prim.Native.Nat.{ℕ, ◌-◌, ◌*◌}
 use Rattle.std.proofs.Math.Nat.{sub_self}
-use Rattle.std.specs.Float.{inf, binary64}
+use Rattle.std.specs.Float.{inf, nan, fin, binary64}
 use Rattle.std.specs.Float.Ieee.{up, down, add, sub, fits, is_nan, lt, le, eq}
 use Rattle.std.specs.Float.Ieee.Fits.{down_pos, and_i, and_l, and_r, sub-fits, inf-fits}
 use Rattle.times.specs.Time.{clear, is_never, instant, never, latest, is_time, is_timer, least_of}
@@ -36,7 +36,10 @@ unfolding is_timer
 never-timer = or_r (is_time never) true tt
 
 pub never-is : (x : Float) → T (is_never x) → x ≡ never
+never-is nan u = elim u [ ]
+never-is (inf true) u = elim u [ ]
 never-is (inf false) u = refl
+never-is (fin _ _ _) u = elim u [ ]
 
 pub timer-split : (x : Float) → T (is_timer x) → T (is_time x) ⊎ (x ≡ never)
 unfolding is_timer

@@ -1,7 +1,7 @@
 -- The order of the values whose sign bit is clear. It is total and transitive, and antisymmetric among those that a format holds. Assumes nothing.
 use Rattle.std.specs.Prelude.{◌≡◌, refl, ◌⊎◌, ℕ, ◌+◌, ◌-◌, ◌*◌, ◌/◌, ◌^◌, ◌≤◌, ◌<◌, Bool, true, false, not, ◌&&◌, ◌||◌, ℤ, T, leb, ltb, eqb, Float}
 use Rattle.std.proofs.Common.{sym, ap, ◌∙◌, subst, inl, inr, le_refl, le_of_eq, le_of_lt, le_antisymm, eq-or-lt_of_le, lt_of_not-le, not-le_of_lt, mul_right_comm, true≢false, leb→le, le→leb, ltb→lt, lt→ltb, eqb→eq, T_not}
-use Rattle.std.proofs.Math.Dec.{eqb_refl, not_t}
+use Rattle.std.proofs.Math.Dec.{eqb_refl, not_T}
 use Rattle.std.specs.Float.{nan, inf, fin, Format}
 use Rattle.std.specs.Float.Ieee.{prec, low, hid, up, down, size, fits, is_nan, lt, le, eq, to_bits, of_bits}
 use Rattle.std.specs.Float.Ieee.Fits.{down_pos, and_i, and_l, eq→eqb}
@@ -45,6 +45,7 @@ view (fin false m e) t = number m e
 
 pub clear-no-nan : (x : Float) → T (clear x) → T (not (is_nan x))
 unfolding is_nan
+clear-no-nan nan t = elim t [ ]
 clear-no-nan (inf s) t = tt
 clear-no-nan (fin s m e) t = tt
 
@@ -104,7 +105,7 @@ transitive x y z (number m e) (number l c) (number n d) h k =
 lt-is : (a b : ℕ) → ltb a b ≡ not (ltb b a || (eqb b a && true))
 lt-is a b =
     same_test (ltb a b) (not (ltb b a || (eqb b a && true)))
-    (λ t. not_t (ltb b a || (eqb b a && true)) (λ u. not-le_of_lt (ltb→lt a b t) (lt-or-eq b a u)))
+    (λ t. not_T (ltb b a || (eqb b a && true)) (λ u. not-le_of_lt (ltb→lt a b t) (lt-or-eq b a u)))
     (λ t. lt→ltb a b (lt_of_not-le (λ (h : b ≤ a). T_not (ltb b a || (eqb b a && true)) t (of_le b a h))))
   where
     of_le : (x y : ℕ) → x ≤ y → T (ltb x y || (eqb x y && true))
