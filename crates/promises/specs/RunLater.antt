@@ -5,7 +5,7 @@ use Rattle.std.proofs.Common.{sym, subst, ◌∙◌, inl, inr, arith, suc-add, z
 use Rattle.std.specs.Prelude.{Bool, true, false, not, T, leb, Float}
 use mathlib.Core.List.{List, [], ◌++◌, append_assoc, append-nil}
 use Rattle.std.proofs.Math.ListN.{length}
-use Rattle.std.proofs.Math.Dec.{not_t}
+use Rattle.std.proofs.Math.Dec.{not_T}
 use Rattle.std.specs.Float.Ieee.{lt, le}
 use Rattle.times.specs.Time.{is_time}
 use Rattle.times.specs.Laws as law
@@ -28,7 +28,7 @@ below_both clock early later c e l h b =
     let e' = law.time-timer early e in
     let l' = law.time-timer later l in
     subst T (sym (law.timers-lt clock later c' l'))
-    (not_t (le later clock) (λ q. T_not (le early clock) (subst T (law.timers-lt clock early c' e') b) (law.timers-transitive early later clock e' l' c' h q)))
+    (not_T (le later clock) (λ q. T_not (le early clock) (subst T (law.timers-lt clock early c' e') b) (law.timers-transitive early later clock e' l' c' h q)))
 
 module _ (services : List Float) (short : T (is_word (length services))) (early later : Float) (e-time : T (is_time early)) (l-time : T (is_time later)) (order : T (le early later)) where
   abbrev first : ℕ → ℕ → Simulation → Ran
@@ -220,7 +220,7 @@ module _ (services : List Float) (short : T (is_word (length services))) (early 
           looks services later room a sim v l
           ∙ steps-same services short early later e l order a room sim (valid-of sim v) (subst (λ (f : Ran). f.end ≡ Reached → T (not (lt f.sim.clock later))) is h)
           ∙ sym is
-      go false q = let v = not_t (is_valid sim) (λ t. subst T q t) in bad-state-again services later room a sim v ∙ sym (bad-state-again services early room a sim v)
+      go false q = let v = not_T (is_valid sim) (λ t. subst T q t) in bad-state-again services later room a sim v ∙ sym (bad-state-again services early room a sim v)
 
   -- so a run that has not reached `early` goes on until `later` as it is
   pub until-on-later : (room a b : ℕ) (sim : Simulation) → T (is_time early) → T (is_time later) → T (le early later) → ((step_until services early room a sim).end ≡ Reached → ⊥)

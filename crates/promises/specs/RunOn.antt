@@ -9,7 +9,7 @@ use mathlib.Core.List.{List, [], ◌∷◌, ◌++◌, append_assoc}
 use native.Mathlib.Omega.{arith}
 use Rattle.std.proofs.Math.Nat.{sub-zero}
 use Rattle.std.proofs.Math.ListN.{length}
-use Rattle.std.proofs.Math.Dec.{T, not_t}
+use Rattle.std.proofs.Math.Dec.{T, not_T}
 use Rattle.std.specs.Float.Ieee.{lt}
 use Rattle.times.specs.Time.{is_time}
 use Rattle.rules.specs.declared.Refusal.{Refusal}
@@ -284,7 +284,7 @@ module _ (services : List Float) where
             ∙ run-through Done (λ left n s. steps services left n s) (steps-stepwise services) a b room sim (never-reached room a sim)
             ∙ sym (passes room (a + b) sim v)
         go false e =
-            let v = not_t (is_valid sim) (λ t. subst T e t) in
+            let v = not_T (is_valid sim) (λ t. subst T e t) in
             ap (λ (r : Ran). run_on_after r room second) (bad-state-twice room a sim v)
             ∙ ap (joined (ended (Refused BadState) sim)) (bad-state-twice (room - 0) b sim v)
             ∙ sym (bad-state-twice room (a + b) sim v)
@@ -312,7 +312,7 @@ module _ (services : List Float) where
             subst Again (sym is)
             (passes (room_left room first) (suc b) first.sim (next-valid room a sim v) ∙ run-again Done (λ left n s. steps services left n s) (steps-stepwise services) a b room sim r (ap (λ (f : Ran). f.end) (sym is) ∙ q))
         go false e =
-            let v = not_t (is_valid sim) (λ t. subst T e t) in
+            let v = not_T (is_valid sim) (λ t. subst T e t) in
             let is = bad-state-twice room a sim v in
             subst Again (sym is) (bad-state-twice (room - 0) (suc b) sim v ∙ ap (λ (y : Refusal). ended (Refused y) sim) (refused-same r BadState (ap (λ (f : Ran). f.end) (sym is) ∙ q)))
 
@@ -360,8 +360,8 @@ module _ (services : List Float) (until : Float) where
     where
       go : (x : Bool) → is_valid sim ≡ x → (y : Bool) → is_time until ≡ y → Judged sim
       go true e true f = fine (subst T (sym e) tt) (subst T (sym f) tt)
-      go true e false f = bad BadTime (λ room n. bad-until-again room n sim (subst T (sym e) tt) (not_t (is_time until) (λ t. subst T f t)))
-      go false e y f = bad BadState (λ room n. bad-state-again room n sim (not_t (is_valid sim) (λ t. subst T e t)))
+      go true e false f = bad BadTime (λ room n. bad-until-again room n sim (subst T (sym e) tt) (not_T (is_time until) (λ t. subst T f t)))
+      go false e y f = bad BadState (λ room n. bad-state-again room n sim (not_T (is_valid sim) (λ t. subst T e t)))
 
   abbrev run : ℕ → ℕ → Simulation → Ran
   run room n sim = steps_until services until room n sim

@@ -5,7 +5,7 @@ use Rattle.std.proofs.Math.Path.{refl, subst}
 use Rattle.std.proofs.Math.Bool.{true, false}
 use mathlib.Core.List.{List, [], ◌∷◌, map, reverse_aux}
 use Rattle.std.proofs.Math.Option.{Option, none, some}
-use Rattle.std.proofs.Math.Dec.{not_t}
+use Rattle.std.proofs.Math.Dec.{not_T}
 use Rattle.std.specs.Float.Ieee.Fits.{and_i, and_l, and_r, eq→eqb}
 use Rattle.std.specs.Float.{binary64}
 use Rattle.std.specs.Float.Ieee.{fits}
@@ -72,7 +72,7 @@ reads d f g = exactly (λ t. f (tells d t)) (λ q. passes d (g q))
 
 -- ---- not, both, and a list of tests
 pub fails : {b : Bool} {P : Type 0} → Decides b P → Decides (not b) (P → ⊥)
-fails {b} d = exactly (λ t p. T_not b t (passes d p)) (λ n. not_t b (λ t. n (tells d t)))
+fails {b} d = exactly (λ t p. T_not b t (passes d p)) (λ n. not_T b (λ t. n (tells d t)))
 
 pub both : {a b : Bool} {P Q : Type 0} → Decides a P → Decides b Q → Decides (a && b) (P × Q)
 both {a} {b} c d = exactly (λ t. (tells c (and_l a b t), tells d (and_r a b t))) (λ h. and_i a b (passes c h.0) (passes d h.1))
@@ -684,11 +684,13 @@ sifted-element : {A B : Type 0} {K : A → B → Type 0} {N : A → Type 0} {xs 
 sifted-element {A} {B} {K} {N} p y one not-both = (from-it p, into p)
   where
     from-it : {xs : List A} {ys : List B} → Sifted K N xs ys → y ∈ ys → Any (λ x. K x y) xs
+    from-it ended q = elim q [ ]
     from-it (kept {x = x} k p) (here e) = here (subst (λ (z : B). K x z) e k)
     from-it (kept k p) (there q) = there (from-it p q)
     from-it (left n p) q = there (from-it p q)
 
     into : {xs : List A} {ys : List B} → Sifted K N xs ys → Any (λ x. K x y) xs → y ∈ ys
+    into ended x4 = elim x4 [ ]
     into (kept {x = x} {y = z} k p) (here h) = here (one x z k h)
     into (kept k p) (there q) = there (into p q)
     into (left {x = x} n p) (here h) = absurd (not-both x n h)

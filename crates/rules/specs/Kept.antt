@@ -6,7 +6,7 @@ use Rattle.std.proofs.Math.Option.{Option, none, some}
 use native.Mathlib.Omega.{arith}
 use Rattle.std.proofs.Math.ListN.{length, take, drop, length-drop}
 use Rattle.std.proofs.lemmas.List.{length-map}
-use Rattle.std.proofs.Math.Dec.{T, leb→le, le→leb, nleb→lt, ltb→lt, lt→ltb, eqb_refl, T_not, not_t}
+use Rattle.std.proofs.Math.Dec.{T, leb→le, le→leb, nleb→lt, ltb→lt, lt→ltb, eqb_refl, T_not, not_T}
 use Rattle.times.specs.Time.{instant, never, is_time, is_timer}
 use Rattle.times.specs.Laws as law
 use Rattle.rules.specs.declared.Refusal.{Refusal}
@@ -190,7 +190,7 @@ batcher-internal b s t (a & l & c & nil) = go (leb (length s.jobs) b.max_batch_s
 -- ---- Stopwatch
 -- names that differ, and one more that is none of them
 flip : (x y : ℕ) → T (not (eqb x y)) → T (not (eqb y x))
-flip x y t = not_t (eqb y x) (λ u. T_not (eqb x y) t (subst (λ (z : ℕ). T (eqb x z)) (sym (eqb→eq y x u)) (eqb_refl x)))
+flip x y t = not_T (eqb y x) (λ u. T_not (eqb x y) t (subst (λ (z : ℕ). T (eqb x z)) (sym (eqb→eq y x u)) (eqb_refl x)))
 
 member-snoc : (y x : ℕ) (ys : List ℕ) → T (not (member y ys)) → T (not (eqb x y)) → T (not (member y (ys ++ x ∷ [])))
 member-snoc y x [] t u = not-or-i (eqb x y) false u tt
