@@ -27,7 +27,7 @@ use Rattle.rules.specs.Models.{is_named}
 use Rattle.rules.specs.Step.{timer, due}
 use Rattle.rules.specs.Valid.{is_active, processor_rules, batcher_rules, mark_fits, member, differ, names, stopwatch_rules, coupled_rules, state_fits, states_fit, message_rules, is_valid, model_fits}
 use Rattle.rules.specs.Calls.{Call, InjectInput, Step, StepN, StepUntil, Reset, ResetMessages, ResetGlobalTime, list_rules, call_rules}
-use Rattle.rules.specs.Ends.{all-imp, no-some, but-not, but-not-i, if-both, if-both-i, or_l, or_r, or_split, All, ◌&◌, every-all, all-every, parts, whole_of}
+use Rattle.rules.specs.Ends.{all-imp, no-some, but-not, but-not-i, if-both, if-both-i, or_l, or_r, or_split, All, every-all, all-every, parts, whole_of}
 
 infixr 3 ◌also◌
 infix 4 ◌∈◌

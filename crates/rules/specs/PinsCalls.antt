@@ -1,5 +1,5 @@
 -- The calls of 01, and what refusal 20 asks, pinned: each case is computed, and an edit of its sentence breaks it. Assumes nothing.
-use Rattle.std.specs.Prelude.{ℕ, ◌+◌, ◌-◌, ◌^◌, ◌≡◌, refl, Bool, true, false, List, [], ◌∷◌, ◌++◌, map, pos, replicate, Float}
+use Rattle.std.specs.Prelude.{ℕ, ◌-◌, ◌^◌, ◌≡◌, refl, Bool, true, false, List, [], ◌∷◌, ◌++◌, map, pos, replicate, Float}
 use Rattle.std.proofs.Math.Option.{none, some}
 use Rattle.std.specs.Float.{fin}
 use Rattle.std.specs.Float.Ieee.{add, sub, div, of_int, lt, le, eq, fits, of_bits, to_bits}

@@ -1,5 +1,5 @@
 -- The Coupled and the step of 01, pinned: each case is computed, and an edit of its sentence breaks it. Assumes nothing.
-use Rattle.std.specs.Prelude.{ℕ, ◌+◌, ◌≡◌, refl, List, [], ◌∷◌, ◌++◌, replicate, Float}
+use Rattle.std.specs.Prelude.{ℕ, ◌≡◌, refl, List, [], ◌∷◌, ◌++◌, replicate, Float}
 use Rattle.std.proofs.Math.Option.{none, some}
 use Rattle.std.specs.Float.Ieee.{add, sub, lt, le, eq, fits, of_bits, to_bits}
 use Rattle.times.specs.Time.{instant, never, latest, is_time, is_timer, least_of}
@@ -15,7 +15,7 @@ use Rattle.rules.specs.Models.{Started, Kept, Marked, Asked, Passed, service, pr
 use Rattle.rules.specs.Step.{Happening, came, went, waited, out_at, timer, external, internal, step_on}
 use Rattle.rules.specs.Valid.{is_valid}
 use Rattle.rules.specs.Calls.{End, Done, Refused, steps, step_n, step}
-use Rattle.rules.specs.Examples.{at, one, two, three, four, five, six, ten, row, within, a_batcher, a_processor, a_stopwatch, link, active, passive, batch, release, no_batch, watch, parked_at, message, job, jobs}
+use Rattle.rules.specs.Examples.{at, one, two, three, four, five, six, ten, row, within, a_batcher, a_processor, a_stopwatch, link, active, passive, batch, release, no_batch, watch, parked_at, message, job}
 
 -- ---- a simulation with its states handed in, at a clock, with the service times 4, 5, 6 from their start on
 abbrev table_of : List Row → List Connector → List Coupling → Table

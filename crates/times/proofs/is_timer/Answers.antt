@@ -18,5 +18,5 @@ returns-then-is_time c = let x = c.args.x in sym (ap (λ (t : Bool). t || is_nev
 
 pub returns : goal.returns
 unfolding is_timer
-returns c =     let x = c.args.x in
+returns c = let x = c.args.x in
     ap (eq x) c.never.ensures ∙ never-test x ∙ sym (ap (λ (t : Bool). t || is_never x) (sym c.is_time.ensures ∙ c.if-is_time.false))

@@ -1,0 +1,15 @@
+-- `table::has_row` meets its contract: `has-row` turns the search of the key into a test of the rows. Assumes nothing.
+use mathlib.Core.Path.{sym, ap, ◌∙◌}
+use Rattle.words.specs.SearchLaws.{is_found}
+use Rattle.table.specs.Searched.{has-row}
+use Rattle.table.proofs.has_row.Goals as goal
+
+pub returns-in-At : goal.returns-in-At
+returns-in-At c =
+    let a = c.args in
+    sym (has-row a.models.now a.rows a.id a.at a.value c.requires.0 c.requires.1 c.next_row.ensures ∙ ap is_found c.in-At.is)
+
+pub returns-in-Nothing : goal.returns-in-Nothing
+returns-in-Nothing c =
+    let a = c.args in
+    sym (has-row a.models.now a.rows a.id a.at a.value c.requires.0 c.requires.1 c.next_row.ensures ∙ ap is_found c.in-Nothing.is)

@@ -1,0 +1,18 @@
+-- `table::is_child` meets its contract. Assumes nothing.
+use mathlib.Core.Path.{sym, ap, ◌∙◌}
+use borrow.Author.Tests.{eq-eqb, ne_eqb}
+use Rattle.rules.specs.Layout.{parent_in}
+use Rattle.table.specs.Judging.{option_of}
+use Rattle.table.specs.Readings.{parent-back}
+use Rattle.table.proofs.is_child.Goals as goal
+
+pub returns-then-word_at-target : goal.returns-then-word_at-target
+returns-then-word_at-target c = rw (ne_eqb _ _ (λ e. c.if-word_at-target.true (c.word_at.ensures ∙ e)))
+
+pub returns-in-Of : goal.returns-in-Of
+returns-in-Of c =
+    rw (eq-eqb _ _ (sym c.word_at.ensures ∙ c.if-word_at-target.false), parent-back (parent_in c.args.cells.now) c.parent_in.ensures ∙ ap option_of c.in-Of.is)
+
+pub returns-in-Nobody : goal.returns-in-Nobody
+returns-in-Nobody c =
+    rw (eq-eqb _ _ (sym c.word_at.ensures ∙ c.if-word_at-target.false), parent-back (parent_in c.args.cells.now) c.parent_in.ensures ∙ ap option_of c.in-Nobody.is)
