@@ -26,6 +26,7 @@ all_of [] f = nil
 all_of (x ∷ xs) f = f x (here refl) & all_of xs (λ y at. f y (there at))
 
 of-all : {A : Type 0} {P : A → Type 0} {xs : List A} {x : A} → All P xs → x ∈ xs → P x
+of-all {A = A} {P = P} nil x6 = elim x6 [ ]
 of-all {P = P} (h & p) (here e) = subst P e h
 of-all (h & p) (there at) = of-all p at
 

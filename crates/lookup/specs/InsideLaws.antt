@@ -52,6 +52,7 @@ module _ (state : List ℕ) where
 
 -- ---- lists
 element-keeps : {A : Type 0} (P : A → Type 0) {xs : List A} {x : A} → All P xs → x ∈ xs → P x
+element-keeps {A = A} P nil x6 = elim x6 [ ]
 element-keeps P (h & p) (here e) = subst P e h
 element-keeps P (h & p) (there q) = element-keeps P p q
 

@@ -1,0 +1,8 @@
+-- `hints::has_port` meets its contract, by the side. Assumes nothing.
+use Rattle.hints.proofs.has_port.Goals as goal
+
+pub returns-in-In : goal.returns-in-In
+returns-in-In c = rw c.in-In.is c.takes.ensures
+
+pub returns-in-Out : goal.returns-in-Out
+returns-in-Out c = rw c.in-Out.is c.puts_out.ensures

@@ -1,0 +1,8 @@
+-- `hints::port_key` meets its contract, by the side. Assumes nothing.
+use Rattle.hints.proofs.port_key.Goals as goal
+
+pub returns-in-In : goal.returns-in-In
+returns-in-In c = rw c.in-In.is
+
+pub returns-in-Out : goal.returns-in-Out
+returns-in-Out c = rw c.in-Out.is

@@ -1,0 +1,16 @@
+-- `hints::puts_out` meets its contract, by the kind. Assumes nothing.
+use mathlib.Core.Path.{sym}
+use Rattle.rules.specs.Ends.{one}
+use Rattle.hints.proofs.puts_out.Goals as goal
+
+pub returns-in-Processor : goal.returns-in-Processor
+returns-in-Processor c = rw c.in-Processor.is (sym (one _))
+
+pub returns-in-Batcher : goal.returns-in-Batcher
+returns-in-Batcher c = rw c.in-Batcher.is (sym (one _))
+
+pub returns-in-Stopwatch : goal.returns-in-Stopwatch
+returns-in-Stopwatch c = rw c.in-Stopwatch.is (sym (one _))
+
+pub returns-in-Coupled : goal.returns-in-Coupled
+returns-in-Coupled c = rw c.in-Coupled.is c.coupled_has.ensures

@@ -1,0 +1,20 @@
+-- `reasons::connector_reason` meets its contract: it is whole, and then the search of its words. Assumes nothing.
+use borrow.Author.Tests.{eq-eqb, ne_eqb}
+use Rattle.reasons.specs.declared.Reason.TheVariants.{NoReason, ConnectorWide}
+use Rattle.reasons.specs.Reasons.{connector_reason}
+use Rattle.reasons.proofs.Laws.{widths-by}
+use Rattle.reasons.proofs.connector_reason.Goals as goal
+
+pub returns-then-cells-ne4 : goal.returns-then-cells-ne4
+unfolding connector_reason
+returns-then-cells-ne4 c = rw (ne_eqb _ _ c.if-cells-ne4.true)
+
+pub returns-in-At : goal.returns-in-At
+unfolding connector_reason
+returns-in-At c =
+    rw (eq-eqb _ _ c.if-cells-ne4.false) (widths-by ConnectorWide c.args.cells.now NoReason 0 4 c.first_wide.ensures c.in-At.is)
+
+pub returns-in-Nothing : goal.returns-in-Nothing
+unfolding connector_reason
+returns-in-Nothing c =
+    rw (eq-eqb _ _ c.if-cells-ne4.false) (widths-by ConnectorWide c.args.cells.now NoReason 0 4 c.first_wide.ensures c.in-Nothing.is)

@@ -1,0 +1,24 @@
+-- `reasons::end_reason` meets its contract: the owner's word, the search of the others, and then the owner. Assumes nothing.
+use mathlib.Core.Path.{◌≡◌, ◌∙◌}
+use Rattle.rules.specs.Layout.{cell}
+use Rattle.reasons.specs.declared.Reason.TheVariants.{CouplingWide}
+use Rattle.reasons.specs.Reasons.{owner_reason, end_reason}
+use Rattle.reasons.proofs.Laws.{port-fits, port-beyond, widths-by}
+use Rattle.reasons.proofs.end_reason.Goals as goal
+
+pub returns-then-owner-gt65535 : goal.returns-then-owner-gt65535
+unfolding end_reason
+returns-then-owner-gt65535 c = rw (port-beyond c.args.cells.now 0 c.word_at-owner.ensures c.if-owner-gt65535.true)
+
+pub returns-in-At : goal.returns-in-At
+unfolding end_reason
+returns-in-At c =
+    let row = c.args.cells.now in
+    rw (port-fits row 0 c.word_at-owner.ensures c.if-owner-gt65535.false) (widths-by CouplingWide row _ 2 4 c.first_wide.ensures c.in-At.is)
+
+pub returns-in-Nothing : goal.returns-in-Nothing
+unfolding end_reason
+returns-in-Nothing c =
+    let row = c.args.cells.now in
+    let told : c.owner_reason.result ≡ owner_reason c.args.models.now (cell row 0) (cell row 1) (cell row 4) = rw (← c.word_at-owner.ensures, ← c.word_at-kind.ensures, ← c.word_at-target.ensures) c.owner_reason.ensures in
+    rw (port-fits row 0 c.word_at-owner.ensures c.if-owner-gt65535.false) (told ∙ widths-by CouplingWide row _ 2 4 c.first_wide.ensures c.in-Nothing.is)

@@ -1,0 +1,14 @@
+-- `selection::next_child` meets its contract. The loop's invariant: the search from here on gives what the whole search gives. Assumes nothing.
+use mathlib.Core.Path.{◌≡◌}
+use Prim.Native.Nat.{◌-◌}
+use Rattle.words.specs.Search.{first_from}
+use Rattle.selection.specs.Selecting.{rows_in}
+use Rattle.selection.specs.SelectingLaws.{child_at}
+use Rattle.selection.proofs.next_child.Given as goal
+
+abbrev pub invariant-loop-row : goal.invariant-loop-row
+invariant-loop-row l =
+    (l.end ≡ rows_in l.models) × (first_from (child_at l.given l.parent l.models) l.row (l.end - l.row) ≡ first_from (child_at l.given l.parent l.models) l.from (rows_in l.models - l.from))
+
+abbrev pub decreases-loop-row : goal.decreases-loop-row
+decreases-loop-row l = l.end - l.row
