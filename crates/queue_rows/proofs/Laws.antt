@@ -5,7 +5,7 @@ use mathlib.Core.Bool.{not}
 use mathlib.Core.List.{List, [], ◌∷◌}
 use native.Mathlib.Omega.{arith}
 use lib.ListN.{length, take, drop}
-use lib.Dec.{T, eqb, leb, ltb, leb→le, le→leb}
+use lib.Dec.{T, eqb, ltb, leb→le, le→leb}
 use lib.Ieee.{Float}
 use Rattle.times.specs.Time.{instant}
 use Rattle.rules.specs.declared.Refusal.{Refusal}
