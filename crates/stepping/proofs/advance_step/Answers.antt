@@ -22,59 +22,22 @@ use Rattle.views.specs.World.{states_in, world_in}
 use Rattle.row_timers.specs.Passing.{Passed}
 use Rattle.stepping.specs.Simulating.{clock_in, sim_in, turns_of, closing, Closed}
 use Rattle.stepping.specs.Whole.{idle-is, overflow-is, passes_on, ends-done, ends-halfway, never-eq, some-time}
-use borrow.Author.Rules.{rules}
 use Rattle.stepping.proofs.advance_step.Goals as goal
-
--- the step from its opening to the turns
-opens : (@PLACE(Start) : goal.Start) (a next : Float) (mid : List ℕ) (e : a ≡ least_timer (table_in c.args.state.now) (states_in (table_in c.args.state.now) c.args.mem.now)) → later_of c.args.clock a ≡ Clock next
-    → is_never (least_timer (table_in c.args.state.now) (states_in (table_in c.args.state.now) c.args.mem.now)) ≡ false → Passed (table_in c.args.state.now) a c.args.mem.now mid
-    → step_on (table_in c.args.state.now) c.args.services.now (sim_in (table_in c.args.state.now) c.args.mem.now)
-    ≡ (turns_of (table_in c.args.state.now) c.args.services.now next (world_in (table_in c.args.state.now) mid (waited (least_timer (table_in c.args.state.now) (states_in (table_in c.args.state.now) c.args.mem.now)) ∷ []), []) >>= closing (table_in c.args.state.now) next)
-opens @PLACE(Start) a next mid e h some p =
-    let t = table_in c.args.state.now in
-    let l = later-is a next e h in
-    let time = is_true (is_time (add binary64 (clock_in c.args.mem.now) (least_timer t (states_in t c.args.mem.now)))) (subst (λ (x : Float). T (is_time x)) l.1 l.0) in
-    passes_on t c.args.services.now c.args.mem.now c.requires.4 some time mid (subst (λ (x : Float). Passed t x c.args.mem.now mid) e p)
-    ∙ sym (ap (λ (x : Float). turns_of t c.args.services.now x (world_in t mid (waited (least_timer t (states_in t c.args.mem.now)) ∷ []), []) >>= closing t x) l.1)
-
--- src/lib.rt:123:9
-pub least_timer-advance-requires : goal.least_timer-advance-requires
-least_timer-advance-requires c = search rules
-
--- src/lib.rt:124:19
-pub never-requires : goal.never-requires
-never-requires c = search rules
-
--- src/lib.rt:125:9
-pub shape_of-mem-then-advance-never : goal.shape_of-mem-then-advance-never
-shape_of-mem-then-advance-never c = search rules
 
 -- src/lib.rt:125:9
 pub returns-then-advance-never : goal.returns-then-advance-never
 returns-then-advance-never c =
     let timer-of : T (is_timer (least_timer (table_in c.args.state.now) (states_in (table_in c.args.state.now) c.args.mem.now))) = least-is-timer (table_in c.args.state.now) (fine-in c.args.state.now c.requires.0) (states_in (table_in c.args.state.now) c.args.mem.now) c.requires.1.ready.good.0 in
-    let asked : (a n : Float)  →  a ≡ least_timer (table_in c.args.state.now) (states_in (table_in c.args.state.now) c.args.mem.now) → n ≡ never → (b : Bool) → eq a n ≡ b → is_never (least_timer (table_in c.args.state.now) (states_in (table_in c.args.state.now) c.args.mem.now)) ≡ b = λ a n e f b h. sym (never-eq _ (timer-of)) ∙ (rw (← e, ← f) h) in
+    let asked : (a n : Float) → a ≡ least_timer (table_in c.args.state.now) (states_in (table_in c.args.state.now) c.args.mem.now) → n ≡ never → (b : Bool) → eq a n ≡ b → is_never (least_timer (table_in c.args.state.now) (states_in (table_in c.args.state.now) c.args.mem.now)) ≡ b = λ a n e f b h. sym (never-eq _ (timer-of)) ∙ (rw (← e, ← f) h) in
     let a = c.args in
     let t = table_in a.state.now in
     record { steps = record { is = idle-is t a.services.now a.mem.now c.requires.4 (asked c.least_timer-advance.result c.never.result c.least_timer-advance.ensures c.never.ensures true c.if-advance-never.true); same = refl }; long = refl }
-
--- src/lib.rt:127:11
-pub advance_clock-requires : goal.advance_clock-requires
-advance_clock-requires c = search rules
-
--- src/lib.rt:128:47
-pub enum_told-1 : goal.enum_told-1
-enum_told-1 c = search rules
-
--- src/lib.rt:129:22
-pub enum_known-next : goal.enum_known-next
-enum_known-next c = search rules
 
 -- src/lib.rt:130:13
 pub pass-requires : goal.pass-requires
 pass-requires c =
     let timer-of : T (is_timer (least_timer (table_in c.args.state.now) (states_in (table_in c.args.state.now) c.args.mem.now))) = least-is-timer (table_in c.args.state.now) (fine-in c.args.state.now c.requires.0) (states_in (table_in c.args.state.now) c.args.mem.now) c.requires.1.ready.good.0 in
-    let asked : (a n : Float)  →  a ≡ least_timer (table_in c.args.state.now) (states_in (table_in c.args.state.now) c.args.mem.now) → n ≡ never → (b : Bool) → eq a n ≡ b → is_never (least_timer (table_in c.args.state.now) (states_in (table_in c.args.state.now) c.args.mem.now)) ≡ b = λ a n e f b h. sym (never-eq _ (timer-of)) ∙ (rw (← e, ← f) h) in
+    let asked : (a n : Float) → a ≡ least_timer (table_in c.args.state.now) (states_in (table_in c.args.state.now) c.args.mem.now) → n ≡ never → (b : Bool) → eq a n ≡ b → is_never (least_timer (table_in c.args.state.now) (states_in (table_in c.args.state.now) c.args.mem.now)) ≡ b = λ a n e f b h. sym (never-eq _ (timer-of)) ∙ (rw (← e, ← f) h) in
     let a = c.args in
     let t = table_in a.state.now in
     let s = c.requires.1 in
@@ -89,30 +52,18 @@ pass-requires c =
 -- src/lib.rt:131:19
 pub close-requires : goal.close-requires
 close-requires c =
-    let later-is : (a next : Float)  →  a ≡ least_timer (table_in c.args.state.now) (states_in (table_in c.args.state.now) c.args.mem.now) → later_of c.args.clock a ≡ Clock next → T (is_time next) × (next ≡ add binary64 (clock_in c.args.mem.now) (least_timer (table_in c.args.state.now) (states_in (table_in c.args.state.now) c.args.mem.now))) = λ a next e h. let s = clock-says c.args.clock a next h in (s.0, s.1 ∙ (rw (c.requires.2, e))) in
+    let later-is : (a next : Float) → a ≡ least_timer (table_in c.args.state.now) (states_in (table_in c.args.state.now) c.args.mem.now) → later_of c.args.clock a ≡ Clock next → T (is_time next) × (next ≡ add binary64 (clock_in c.args.mem.now) (least_timer (table_in c.args.state.now) (states_in (table_in c.args.state.now) c.args.mem.now))) = λ a next e h. let s = clock-says c.args.clock a next h in (s.0, s.1 ∙ (rw (c.requires.2, e))) in
     let a = c.args in
     let s = c.requires.1 in
     let l = later-is c.least_timer-advance.result c.in-Clock.next c.least_timer-advance.ensures (sym c.advance_clock.ensures ∙ c.in-Clock.is) in
     let long = c.pass.auto.mem in
     (record { inside = c.requires.0; ready = c.pass.ensures.passes.ready; time = l.0 }, c.requires.3, (let r = s.room in let e = c.requires.3 in omega (arith, long)))
 
--- src/lib.rt:132:33
-pub enum_told-in-Done : goal.enum_told-in-Done
-enum_told-in-Done c = search rules
-
--- src/lib.rt:133:33
-pub enum_known-refusal : goal.enum_known-refusal
-enum_known-refusal c = search rules
-
--- src/lib.rt:118:1
-pub shape_of-mem-in-Overflow : goal.shape_of-mem-in-Overflow
-shape_of-mem-in-Overflow c = search rules
-
 -- src/lib.rt:118:1
 pub returns-in-Overflow : goal.returns-in-Overflow
 returns-in-Overflow c =
     let timer-of : T (is_timer (least_timer (table_in c.args.state.now) (states_in (table_in c.args.state.now) c.args.mem.now))) = least-is-timer (table_in c.args.state.now) (fine-in c.args.state.now c.requires.0) (states_in (table_in c.args.state.now) c.args.mem.now) c.requires.1.ready.good.0 in
-    let asked : (a n : Float)  →  a ≡ least_timer (table_in c.args.state.now) (states_in (table_in c.args.state.now) c.args.mem.now) → n ≡ never → (b : Bool) → eq a n ≡ b → is_never (least_timer (table_in c.args.state.now) (states_in (table_in c.args.state.now) c.args.mem.now)) ≡ b = λ a n e f b h. sym (never-eq _ (timer-of)) ∙ (rw (← e, ← f) h) in
+    let asked : (a n : Float) → a ≡ least_timer (table_in c.args.state.now) (states_in (table_in c.args.state.now) c.args.mem.now) → n ≡ never → (b : Bool) → eq a n ≡ b → is_never (least_timer (table_in c.args.state.now) (states_in (table_in c.args.state.now) c.args.mem.now)) ≡ b = λ a n e f b h. sym (never-eq _ (timer-of)) ∙ (rw (← e, ← f) h) in
     let a = c.args in
     let t = table_in a.state.now in
     let some = asked c.least_timer-advance.result c.never.result c.least_timer-advance.ensures c.never.ensures false c.if-advance-never.false in
@@ -120,40 +71,36 @@ returns-in-Overflow c =
     record { steps = record { is = overflow-is t a.services.now a.mem.now c.requires.4 some (rw (← c.requires.2, ← c.least_timer-advance.ensures) over); same = refl }; long = refl }
 
 -- src/lib.rt:118:1
-pub shape_of-mem-in-Done : goal.shape_of-mem-in-Done
-shape_of-mem-in-Done c = search rules
-
--- src/lib.rt:118:1
 pub returns-in-Done : goal.returns-in-Done
 returns-in-Done c =
     let timer-of : T (is_timer (least_timer (table_in c.args.state.now) (states_in (table_in c.args.state.now) c.args.mem.now))) = least-is-timer (table_in c.args.state.now) (fine-in c.args.state.now c.requires.0) (states_in (table_in c.args.state.now) c.args.mem.now) c.requires.1.ready.good.0 in
-    let asked : (a n : Float)  →  a ≡ least_timer (table_in c.args.state.now) (states_in (table_in c.args.state.now) c.args.mem.now) → n ≡ never → (b : Bool) → eq a n ≡ b → is_never (least_timer (table_in c.args.state.now) (states_in (table_in c.args.state.now) c.args.mem.now)) ≡ b = λ a n e f b h. sym (never-eq _ (timer-of)) ∙ (rw (← e, ← f) h) in
+    let asked : (a n : Float) → a ≡ least_timer (table_in c.args.state.now) (states_in (table_in c.args.state.now) c.args.mem.now) → n ≡ never → (b : Bool) → eq a n ≡ b → is_never (least_timer (table_in c.args.state.now) (states_in (table_in c.args.state.now) c.args.mem.now)) ≡ b = λ a n e f b h. sym (never-eq _ (timer-of)) ∙ (rw (← e, ← f) h) in
+    let later-is : (a next : Float) → a ≡ least_timer (table_in c.args.state.now) (states_in (table_in c.args.state.now) c.args.mem.now) → later_of c.args.clock a ≡ Clock next → T (is_time next) × (next ≡ add binary64 (clock_in c.args.mem.now) (least_timer (table_in c.args.state.now) (states_in (table_in c.args.state.now) c.args.mem.now))) = λ a next e h. let s = clock-says c.args.clock a next h in (s.0, s.1 ∙ (rw (c.requires.2, e))) in
+    let opens : (a next : Float) (mid : List ℕ) (e : a ≡ least_timer (table_in c.args.state.now) (states_in (table_in c.args.state.now) c.args.mem.now)) → later_of c.args.clock a ≡ Clock next → is_never (least_timer (table_in c.args.state.now) (states_in (table_in c.args.state.now) c.args.mem.now)) ≡ false → Passed (table_in c.args.state.now) a c.args.mem.now mid → step_on (table_in c.args.state.now) c.args.services.now (sim_in (table_in c.args.state.now) c.args.mem.now) ≡ (turns_of (table_in c.args.state.now) c.args.services.now next (world_in (table_in c.args.state.now) mid (waited (least_timer (table_in c.args.state.now) (states_in (table_in c.args.state.now) c.args.mem.now)) ∷ []), []) >>= closing (table_in c.args.state.now) next) = λ a next mid e h some p. let t = table_in c.args.state.now in let l = later-is a next e h in let time = is_true (is_time (add binary64 (clock_in c.args.mem.now) (least_timer t (states_in t c.args.mem.now)))) (subst (λ (x : Float). T (is_time x)) l.1 l.0) in passes_on t c.args.services.now c.args.mem.now c.requires.4 some time mid (subst (λ (x : Float). Passed t x c.args.mem.now mid) e p) ∙ sym (ap (λ (x : Float). turns_of t c.args.services.now x (world_in t mid (waited (least_timer t (states_in t c.args.mem.now)) ∷ []), []) >>= closing t x) l.1) in
     let a = c.args in
     let t = table_in a.state.now in
     let mid = c.pass.new.mem in
     let after = c.close.new.mem in
     let short : T (is_word (length a.services.now)) = lt→ltb (length a.services.now) (2 ^ 64) c.well_formed.1.0.0 in
     let some = asked c.least_timer-advance.result c.never.result c.least_timer-advance.ensures c.never.ensures false c.if-advance-never.false in
-    let o = opens @PLACE(Start) c.least_timer-advance.result c.in-Clock.next mid c.least_timer-advance.ensures (sym c.advance_clock.ensures ∙ c.in-Clock.is) some c.pass.ensures.passes in
+    let o = opens c.least_timer-advance.result c.in-Clock.next mid c.least_timer-advance.ensures (sym c.advance_clock.ensures ∙ c.in-Clock.is) some c.pass.ensures.passes in
     let shut = subst (λ (r : Answer). Closed r t a.services.now c.in-Clock.next mid after) c.in-Done.is c.close.ensures.closes in
     let long : length after ≡ length a.mem.now = c.close.ensures.long ∙ c.pass.auto.mem in
     record { steps = ends-done t (fine-in a.state.now c.requires.0) a.services.now short a.mem.now c.requires.1 c.in-Clock.next mid _ o after long shut; long = long }
 
 -- src/lib.rt:118:1
-pub shape_of-mem-in-Refused : goal.shape_of-mem-in-Refused
-shape_of-mem-in-Refused c = search rules
-
--- src/lib.rt:118:1
 pub returns-in-Refused : goal.returns-in-Refused
 returns-in-Refused c =
     let timer-of : T (is_timer (least_timer (table_in c.args.state.now) (states_in (table_in c.args.state.now) c.args.mem.now))) = least-is-timer (table_in c.args.state.now) (fine-in c.args.state.now c.requires.0) (states_in (table_in c.args.state.now) c.args.mem.now) c.requires.1.ready.good.0 in
-    let asked : (a n : Float)  →  a ≡ least_timer (table_in c.args.state.now) (states_in (table_in c.args.state.now) c.args.mem.now) → n ≡ never → (b : Bool) → eq a n ≡ b → is_never (least_timer (table_in c.args.state.now) (states_in (table_in c.args.state.now) c.args.mem.now)) ≡ b = λ a n e f b h. sym (never-eq _ (timer-of)) ∙ (rw (← e, ← f) h) in
+    let asked : (a n : Float) → a ≡ least_timer (table_in c.args.state.now) (states_in (table_in c.args.state.now) c.args.mem.now) → n ≡ never → (b : Bool) → eq a n ≡ b → is_never (least_timer (table_in c.args.state.now) (states_in (table_in c.args.state.now) c.args.mem.now)) ≡ b = λ a n e f b h. sym (never-eq _ (timer-of)) ∙ (rw (← e, ← f) h) in
+    let later-is : (a next : Float) → a ≡ least_timer (table_in c.args.state.now) (states_in (table_in c.args.state.now) c.args.mem.now) → later_of c.args.clock a ≡ Clock next → T (is_time next) × (next ≡ add binary64 (clock_in c.args.mem.now) (least_timer (table_in c.args.state.now) (states_in (table_in c.args.state.now) c.args.mem.now))) = λ a next e h. let s = clock-says c.args.clock a next h in (s.0, s.1 ∙ (rw (c.requires.2, e))) in
+    let opens : (a next : Float) (mid : List ℕ) (e : a ≡ least_timer (table_in c.args.state.now) (states_in (table_in c.args.state.now) c.args.mem.now)) → later_of c.args.clock a ≡ Clock next → is_never (least_timer (table_in c.args.state.now) (states_in (table_in c.args.state.now) c.args.mem.now)) ≡ false → Passed (table_in c.args.state.now) a c.args.mem.now mid → step_on (table_in c.args.state.now) c.args.services.now (sim_in (table_in c.args.state.now) c.args.mem.now) ≡ (turns_of (table_in c.args.state.now) c.args.services.now next (world_in (table_in c.args.state.now) mid (waited (least_timer (table_in c.args.state.now) (states_in (table_in c.args.state.now) c.args.mem.now)) ∷ []), []) >>= closing (table_in c.args.state.now) next) = λ a next mid e h some p. let t = table_in c.args.state.now in let l = later-is a next e h in let time = is_true (is_time (add binary64 (clock_in c.args.mem.now) (least_timer t (states_in t c.args.mem.now)))) (subst (λ (x : Float). T (is_time x)) l.1 l.0) in passes_on t c.args.services.now c.args.mem.now c.requires.4 some time mid (subst (λ (x : Float). Passed t x c.args.mem.now mid) e p) ∙ sym (ap (λ (x : Float). turns_of t c.args.services.now x (world_in t mid (waited (least_timer t (states_in t c.args.mem.now)) ∷ []), []) >>= closing t x) l.1) in
     let a = c.args in
     let t = table_in a.state.now in
     let mid = c.pass.new.mem in
     let after = c.close.new.mem in
     let short : T (is_word (length a.services.now)) = lt→ltb (length a.services.now) (2 ^ 64) c.well_formed.1.0.0 in
     let some = asked c.least_timer-advance.result c.never.result c.least_timer-advance.ensures c.never.ensures false c.if-advance-never.false in
-    let o = opens @PLACE(Start) c.least_timer-advance.result c.in-Clock.next mid c.least_timer-advance.ensures (sym c.advance_clock.ensures ∙ c.in-Clock.is) some c.pass.ensures.passes in
+    let o = opens c.least_timer-advance.result c.in-Clock.next mid c.least_timer-advance.ensures (sym c.advance_clock.ensures ∙ c.in-Clock.is) some c.pass.ensures.passes in
     let shut = subst (λ (r : Answer). Closed r t a.services.now c.in-Clock.next mid after) c.in-Refused.is c.close.ensures.closes in
     record { steps = ends-halfway t (fine-in a.state.now c.requires.0) a.services.now short a.mem.now c.requires.1 c.in-Clock.next mid _ o c.in-Refused.refusal shut; long = c.close.ensures.long ∙ c.pass.auto.mem }

@@ -6,32 +6,7 @@ use Rattle.lookup.specs.Inside.{table_in}
 use Rattle.views.specs.Messages.{messages_in, Joined}
 use Rattle.stepping.specs.Simulating.{turns_of}
 use Rattle.stepping.specs.Whole.{close-done}
-use borrow.Author.Rules.{rules}
 use Rattle.stepping.proofs.close.Goals as goal
-
--- src/lib.rt:107:11
-pub root_turns-requires : goal.root_turns-requires
-root_turns-requires c = search rules
-
--- src/lib.rt:108:22
-pub enum_known-refusal : goal.enum_known-refusal
-enum_known-refusal c = search rules
-
--- src/lib.rt:109:18
-pub enum_known-count : goal.enum_known-count
-enum_known-count c = search rules
-
--- src/lib.rt:110:17
-pub bits_of-bits-requires : goal.bits_of-bits-requires
-bits_of-bits-requires c = search rules
-
--- src/lib.rt:111:13
-pub stamp-requires : goal.stamp-requires
-stamp-requires c = search rules
-
--- src/lib.rt:102:1
-pub shape_of-mem-in-Refused : goal.shape_of-mem-in-Refused
-shape_of-mem-in-Refused c = search rules
 
 -- src/lib.rt:102:1
 pub returns-in-Refused : goal.returns-in-Refused
@@ -40,10 +15,6 @@ returns-in-Refused c =
     let t = table_in a.state.now in
     let fin = c.root_turns.new.mem in
     record { closes = subst (λ (r : Put). Joined r (messages_in a.active) 256 0 (turns_of t a.services.now a.clock) t a.mem.now fin) c.in-Refused.is c.root_turns.ensures.joins; long = c.root_turns.auto.mem }
-
--- src/lib.rt:102:1
-pub shape_of-mem-in-Out : goal.shape_of-mem-in-Out
-shape_of-mem-in-Out c = search rules
 
 -- src/lib.rt:102:1
 pub returns-in-Out : goal.returns-in-Out

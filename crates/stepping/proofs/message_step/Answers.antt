@@ -1,5 +1,5 @@
 -- `stepping::message_step` meets its contract. Assumes nothing.
-use Prim.Native.Nat.{ℕ, ◌+◌, ◌^◌}
+use Prim.Native.Nat.{ℕ, ◌^◌}
 use mathlib.Core.Path.{◌≡◌, refl, sym, subst, ◌∙◌}
 use mathlib.Core.List.{[], ◌∷◌, ◌++◌}
 use native.Mathlib.Omega.{arith}
@@ -20,12 +20,7 @@ use Rattle.views.specs.World.{Does}
 use Rattle.views.specs.Messages.{messages_in}
 use Rattle.stepping.specs.Simulating.{clock_in, active_in, Closed}
 use Rattle.stepping.specs.Whole.{taken_as, taken-stops, taken-on, closed-as, ends-done, ends-halfway}
-use borrow.Author.Rules.{rules}
 use Rattle.stepping.proofs.message_step.Goals as goal
-
--- src/lib.rt:145:17
-pub bounds-mem-0 : goal.bounds-mem-0
-bounds-mem-0 c = search rules
 
 -- src/lib.rt:146:11
 pub take_all-requires : goal.take_all-requires
@@ -41,14 +36,6 @@ take_all-requires c =
       subst (λ (at : ℕ). All MessageFits (messages_in at (word_at a.mem.now 0) a.mem.now)) (sym e) s.active,
     )
 
--- src/lib.rt:147:25
-pub enum_known-refusal : goal.enum_known-refusal
-enum_known-refusal c = search rules
-
--- src/lib.rt:148:54
-pub enum_told-1 : goal.enum_told-1
-enum_told-1 c = search rules
-
 -- src/lib.rt:148:31
 pub close-requires : goal.close-requires
 close-requires c =
@@ -63,18 +50,6 @@ close-requires c =
       (let r = s.room in let e = c.requires.3 in omega (arith, long)),
     )
 
--- src/lib.rt:149:29
-pub enum_told-in-Done-close : goal.enum_told-in-Done-close
-enum_told-in-Done-close c = search rules
-
--- src/lib.rt:150:29
-pub enum_known-refusal-in-Refused-close : goal.enum_known-refusal-in-Refused-close
-enum_known-refusal-in-Refused-close c = search rules
-
--- src/lib.rt:140:1
-pub shape_of-mem-in-Refused : goal.shape_of-mem-in-Refused
-shape_of-mem-in-Refused c = search rules
-
 -- src/lib.rt:140:1
 pub returns-in-Refused : goal.returns-in-Refused
 returns-in-Refused c =
@@ -85,10 +60,6 @@ returns-in-Refused c =
     let d = taken_as t a.services.now a.mem.now mid a.clock a.active (word_at a.mem.now 0) c.take_all.result c.requires.2 c.requires.3 refl c.take_all.ensures.does in
     let m = subst (λ (r : Answer). Does r (Step.taken t a.services.now (clock_in a.mem.now) (active_in t a.mem.now)) t a.mem.now mid) c.in-Refused.is d in
     record { steps = taken-stops t a.services.now a.mem.now c.requires.4 s.clock c.in-Refused.refusal m; long = c.take_all.auto.mem }
-
--- src/lib.rt:140:1
-pub shape_of-mem-in-Done-close : goal.shape_of-mem-in-Done-close
-shape_of-mem-in-Done-close c = search rules
 
 -- src/lib.rt:140:1
 pub returns-in-Done-close : goal.returns-in-Done-close
@@ -104,10 +75,6 @@ returns-in-Done-close c =
     let shut = subst (λ (r : Answer). Closed r t a.services.now (clock_in a.mem.now) mid after) c.in-Done-close.is (closed-as t a.services.now a.clock (clock_in a.mem.now) mid after c.close.result c.requires.2 c.close.ensures.closes) in
     let long : length after ≡ length a.mem.now = c.close.ensures.long ∙ c.take_all.auto.mem in
     record { steps = ends-done t (fine-in a.state.now c.requires.0) a.services.now short a.mem.now s (clock_in a.mem.now) mid (m.more [] ++ waited instant ∷ []) (taken-on t a.services.now a.mem.now c.requires.4 s.clock mid m) after long shut; long = long }
-
--- src/lib.rt:140:1
-pub shape_of-mem-in-Refused-close : goal.shape_of-mem-in-Refused-close
-shape_of-mem-in-Refused-close c = search rules
 
 -- src/lib.rt:140:1
 pub returns-in-Refused-close : goal.returns-in-Refused-close

@@ -1,6 +1,5 @@
 -- `stepping::root_turn` meets its contract. Assumes nothing.
 use Prim.Native.Nat.{◌+◌, ◌≤◌}
-use borrow.Author.Tests.{not-true, not-false}
 use mathlib.Core.Path.{sym, subst, ◌∙◌}
 use native.Mathlib.Omega.{arith}
 use lib.ListN.{length}
@@ -10,16 +9,7 @@ use Rattle.lookup.specs.Inside.{table_in}
 use Rattle.views.specs.World.{Gives}
 use Rattle.views.specs.Frames.{frame_same, frame_then, frame-wider}
 use Rattle.stepping.specs.Parts.{no-root-turn, root-stops, root-goes, sent-kept, only-frame}
-use borrow.Author.Rules.{rules}
 use Rattle.stepping.proofs.root_turn.Goals as goal
-
--- src/lib.rt:65:9
-pub is_due-requires : goal.is_due-requires
-is_due-requires c = search rules
-
--- src/lib.rt:66:9
-pub shape_of-mem-then-not-is_due : goal.shape_of-mem-then-not-is_due
-shape_of-mem-then-not-is_due c = search rules
 
 -- src/lib.rt:66:9
 pub returns-then-not-is_due : goal.returns-then-not-is_due
@@ -27,22 +17,6 @@ returns-then-not-is_due c =
     let a = c.args in
     let t = table_in a.state.now in
     record { joins = no-root-turn t a.services.now a.clock a.row a.active a.count a.mem.now c.requires.0.scene.ready c.requires.4 (sym c.is_due.ensures ∙ c.if-not-is_due.true); frame = frame_same t a.active (length a.mem.now) a.mem.now }
-
--- src/lib.rt:68:14
-pub overflow_add-at : goal.overflow_add-at
-overflow_add-at c = search rules
-
--- src/lib.rt:69:11
-pub internal-requires : goal.internal-requires
-internal-requires c = search rules
-
--- src/lib.rt:70:22
-pub enum_known-refusal : goal.enum_known-refusal
-enum_known-refusal c = search rules
-
--- src/lib.rt:71:18
-pub enum_known-messages : goal.enum_known-messages
-enum_known-messages c = search rules
 
 -- src/lib.rt:72:13
 pub send_all-requires : goal.send_all-requires
@@ -55,10 +29,6 @@ send_all-requires c =
     (c.requires.0.scene.inside, c.requires.0.in_table, c.requires.0.scene.time, c.requires.2, (omega arith), (let r = c.requires.3 in omega (arith, long, r)), p.few, c.requires.4)
 
 -- src/lib.rt:52:1
-pub shape_of-mem-in-Refused : goal.shape_of-mem-in-Refused
-shape_of-mem-in-Refused c = search rules
-
--- src/lib.rt:52:1
 pub returns-in-Refused : goal.returns-in-Refused
 returns-in-Refused c =
     let a = c.args in
@@ -66,10 +36,6 @@ returns-in-Refused c =
     let mid = c.internal.new.mem in
     let s = subst (λ (r : Put). Gives r (a.active + 1536) (Step.internal t a.services.now 5 a.clock a.row) t a.mem.now mid) c.in-Refused.is c.internal.ensures.gives in
     record { joins = root-stops t a.services.now a.clock a.row a.active a.count a.mem.now (sym c.is_due.ensures ∙ c.if-not-is_due.false) c.in-Refused.refusal s; frame = frame-wider t (a.active + 1536) (length a.mem.now) a.active (length a.mem.now) a.mem.now mid (omega arith) (omega arith) c.internal.ensures.frame }
-
--- src/lib.rt:52:1
-pub shape_of-mem-in-Out : goal.shape_of-mem-in-Out
-shape_of-mem-in-Out c = search rules
 
 -- src/lib.rt:52:1
 pub returns-in-Out : goal.returns-in-Out
@@ -83,5 +49,8 @@ returns-in-Out c =
     let len = length a.mem.now in
     let room : a.active + 1536 ≤ len = (let r = c.requires.3 in omega arith) in
     let kept = sent-kept t (a.active + 1536) len a.active a.count a.mem.now mid c.requires.2 (let f = c.requires.4 in omega arith) c.internal.ensures.frame in
-    record { joins = root-goes t a.services.now a.clock a.row a.active a.count a.mem.now (sym c.is_due.ensures ∙ c.if-not-is_due.false) (a.active + 1536) n mid after c.send_all.result p kept c.requires.2 c.send_all.ensures.only c.send_all.ensures.sends; frame = frame_then t a.active len a.mem.now mid after (frame-wider t (a.active + 1536) len a.active len a.mem.now mid (omega arith) (omega arith) c.internal.ensures.frame)
-          (frame-wider t a.active (a.active + 1536) a.active len mid after (omega arith) room (only-frame t a.active (a.active + 1536) mid after c.requires.2 c.send_all.ensures.only)) }
+    record {
+      joins = root-goes t a.services.now a.clock a.row a.active a.count a.mem.now (sym c.is_due.ensures ∙ c.if-not-is_due.false) (a.active + 1536) n mid after c.send_all.result p kept c.requires.2 c.send_all.ensures.only c.send_all.ensures.sends;
+      frame = frame_then t a.active len a.mem.now mid after (frame-wider t (a.active + 1536) len a.active len a.mem.now mid (omega arith) (omega arith) c.internal.ensures.frame)
+          (frame-wider t a.active (a.active + 1536) a.active len mid after (omega arith) room (only-frame t a.active (a.active + 1536) mid after c.requires.2 c.send_all.ensures.only));
+    }

@@ -1,6 +1,6 @@
 -- `stepping::root_turns` meets its contract. The loop: what is left of the turns, from the words and the messages as they stand, is the whole from the words at first. Assumes nothing.
-use Prim.Native.Nat.{ℕ, ◌≤◌, ◌-◌}
-use mathlib.Core.Path.{◌≡◌, refl, sym, subst, ◌∙◌}
+use Prim.Native.Nat.{ℕ, ◌≤◌}
+use mathlib.Core.Path.{refl, sym, subst, ◌∙◌}
 use native.Mathlib.Omega.{arith}
 use lib.ListN.{length}
 use lib.Dec.{T}
@@ -14,11 +14,10 @@ use Rattle.lookup.specs.Inside.{table_in}
 use Rattle.lookup.specs.InsideLaws.{sizes-in, fine-in, in-parentless}
 use Rattle.views.specs.Frames.{frame_then, frame-to}
 use Rattle.views.specs.Messages.{messages_in, Joined}
-use Rattle.sweeps.specs.Adding.{Adding, adding-start, adding-on, adding-stops, adding-none, adding-end}
+use Rattle.sweeps.specs.Adding.{adding-start, adding-on, adding-stops, adding-none, adding-end}
 use Rattle.sweeps.specs.Skips.{stop-bounds}
 use Rattle.row_timers.specs.Passing.{at_zero}
 use Rattle.stepping.specs.Parts.{is_root, pass-turns}
-use borrow.Author.Rules.{rules}
 use Rattle.stepping.proofs.root_turns.Goals as goal
 
 -- src/lib.rt:83:9
@@ -47,10 +46,6 @@ next_parentless-requires c =
     c.requires.0.inside
 
 -- src/lib.rt:89:31
-pub enum_told-1 : goal.enum_told-1
-enum_told-1 c = search rules
-
--- src/lib.rt:89:31
 pub shape_of-mem-in-Nothing : goal.shape_of-mem-in-Nothing
 shape_of-mem-in-Nothing c =
     c.loop-from.invariant.1
@@ -68,10 +63,6 @@ returns-in-Nothing c =
     let g = pass-turns t (fine-in a.state.now c.requires.0.inside) a.services.now a.clock a.active a.active hi c.loop-from.count a.mem.now c.loop-from.mem c.loop-from.from here c.next_at_zero-ripe.ensures within c.loop-from.invariant.2 in
     let m = adding-none t (messages_in a.active) 256 visit (is_root t) a.active hi a.mem.now 0 rows here c.loop-from.mem c.loop-from.count g (sym c.next_parentless.ensures ∙ c.in-Nothing.is) in
     record { joins = m; frame = g.frame }
-
--- src/lib.rt:90:23
-pub enum_known-row : goal.enum_known-row
-enum_known-row c = search rules
 
 -- src/lib.rt:91:23
 pub root_turn-requires : goal.root_turn-requires
@@ -92,14 +83,6 @@ root_turn-requires c =
       rw c.loop-from.invariant.1 c.requires.2,
       g.few,
     )
-
--- src/lib.rt:92:30
-pub enum_known-messages : goal.enum_known-messages
-enum_known-messages c = search rules
-
--- src/lib.rt:93:34
-pub enum_known-refusal : goal.enum_known-refusal
-enum_known-refusal c = search rules
 
 -- src/lib.rt:93:46
 pub shape_of-mem-in-Refused : goal.shape_of-mem-in-Refused

@@ -1,23 +1,13 @@
 -- `stepping::root_turns` meets its contract. The loop: what is left of the turns, from the words and the messages as they stand, is the whole from the words at first. Assumes nothing.
-use Prim.Native.Nat.{ℕ, ◌≤◌, ◌-◌}
-use mathlib.Core.Path.{◌≡◌, refl, sym, subst, ◌∙◌}
-use native.Mathlib.Omega.{arith}
+use Prim.Native.Nat.{◌-◌}
+use mathlib.Core.Path.{◌≡◌}
 use lib.ListN.{length}
-use lib.Dec.{T}
-use Rattle.rules.specs.Base.{done}
 use Rattle.rules.specs.Step as Step
 use Rattle.rules.specs.Step.{levels}
-use Rattle.rules.specs.Depth.{Deep, parentless-deep}
-use Rattle.selection.specs.Selected.{sweep-bounds}
-use Rattle.memory.specs.declared.Put.{Put}
 use Rattle.lookup.specs.Inside.{table_in}
-use Rattle.lookup.specs.InsideLaws.{sizes-in, fine-in, in-parentless}
-use Rattle.views.specs.Frames.{frame_then, frame-to}
-use Rattle.views.specs.Messages.{messages_in, Joined}
-use Rattle.sweeps.specs.Adding.{Adding, adding-start, adding-on, adding-stops, adding-none, adding-end}
-use Rattle.sweeps.specs.Skips.{stop-bounds}
-use Rattle.row_timers.specs.Passing.{at_zero}
-use Rattle.stepping.specs.Parts.{is_root, pass-turns}
+use Rattle.views.specs.Messages.{messages_in}
+use Rattle.sweeps.specs.Adding.{Adding}
+use Rattle.stepping.specs.Parts.{is_root}
 use Rattle.stepping.proofs.root_turns.Given as goal
 
 abbrev pub invariant-loop-from : goal.invariant-loop-from
