@@ -8,7 +8,7 @@ use Rattle.std.proofs.Math.ListN.{length, get_or-append, get_or-eq_default}
 use Rattle.std.proofs.lemmas.List.{length-map}
 use Rattle.std.proofs.Math.Seq.{take-append_seam, drop-append_seam, drop-append-add}
 use Rattle.std.proofs.Math.Dec.{T}
-use Rattle.std.specs.Float.Ieee.{binary64, of_bits, to_bits, le}
+use Rattle.std.specs.Float.Ieee.{binary64, of_bits, to_bits}
 use Rattle.std.specs.Float.Ieee.Bits.{of_bits-to_bits}
 use Rattle.std.specs.Float.Ieee.Fits.{and_i}
 use Rattle.times.specs.Time.{never, is_time, is_timer}
