@@ -1,10 +1,10 @@
 -- What the batcher's events answer, by the rules. Definitions only. Assumes nothing.
-use Rattle.std.specs.Prelude.{ℕ, ◌+◌, ◌≤◌, ◌≡◌, List, length, drop, ltb, Float}
+use Rattle.std.specs.Prelude.{ℕ, ◌+◌, ◌≤◌, ◌≡◌, List, length, drop, ltb, Float, if◌then◌else◌}
 use Rattle.rules.specs.declared.Refusal.{Refusal}
 use Rattle.rules.specs.declared.Refusal.TheVariants.{NoQueueRoom}
 use Rattle.rules.specs.declared.BatcherPhase.{BatcherPhase}
 use Rattle.rules.specs.Sizes.{most_jobs}
-use Rattle.rules.specs.Base.{Outcome, ◌>>=◌, done, if◌then◌else◌}
+use Rattle.rules.specs.Base.{Outcome, ◌>>=◌, done}
 use Rattle.times.specs.Time.{never}
 use Rattle.rules.specs.declared.BatcherPhase.TheVariants as batching
 use Rattle.rules.specs.Simulation as Simulation

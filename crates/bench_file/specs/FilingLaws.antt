@@ -1,8 +1,8 @@
 -- The laws of filing: a row that is put, word by word, and the line that comes next. Assumes nothing.
-use Rattle.std.specs.Prelude.{ℕ, suc, ◌+◌, ◌*◌, ◌-◌, ◌/◌, ◌≤◌, ◌<◌, ◌≡◌, refl, Bool, true, false, not, ◌&&◌, List, [], ◌∷◌, leb, ltb, eqb, length, get_or, set, take, drop}
+use Rattle.std.specs.Prelude.{ℕ, suc, ◌+◌, ◌*◌, ◌-◌, ◌/◌, ◌≤◌, ◌<◌, ◌≡◌, refl, Bool, true, false, not, ◌&&◌, List, [], ◌∷◌, leb, ltb, eqb, length, get_or, set, take, drop, if◌then◌else◌}
 use Rattle.std.proofs.Common.{sym, ◌∙◌, arith, div-mul-le_self, mul-le-mul_right, suc-mul, add-one, ltb-true, ltb-false, leb-true, le-leb, length-drop, drop_of_length-le, drop-drop}
 use Rattle.std.proofs.Math.Seq.{paste, paste-suc}
-use Rattle.rules.specs.Base.{if◌then◌else◌, hold}
+use Rattle.rules.specs.Base.{hold}
 use Rattle.bench_words.specs.Splitting.{is_newline, line_span, lines_of}
 use Rattle.bench_words.specs.SplittingLaws.{span-inside, lines-some}
 use Rattle.bench_lines.specs.declared.Expected.{Expected}

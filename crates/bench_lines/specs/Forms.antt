@@ -1,6 +1,5 @@
 -- The items and their forms: what stands on a line, in order, and in which cell of the row it goes. Definitions only. Assumes nothing.
-use Rattle.std.specs.Prelude.{ℕ, ◌+◌, ◌*◌, ◌-◌, List, [], ◌∷◌, ◌++◌, length, get_or, set, replicate, ltb}
-use Rattle.rules.specs.Base.{if◌then◌else◌}
+use Rattle.std.specs.Prelude.{ℕ, ◌+◌, ◌*◌, ◌-◌, List, [], ◌∷◌, ◌++◌, length, get_or, set, replicate, ltb, if◌then◌else◌}
 use Rattle.bench_words.specs.Numbers.{digit_of}
 use Rattle.bench_words.specs.Texts.{same, text_in}
 use Rattle.bench_lines.specs.declared.Item.{Item}

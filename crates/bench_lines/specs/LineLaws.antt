@@ -1,8 +1,7 @@
 -- Whatever a line says, its row has ten cells, and its column is one of its bytes or the place behind the last. Assumes nothing.
-use Rattle.std.specs.Prelude.{ℕ, ◌+◌, ◌≤◌, ◌≡◌, refl, Bool, true, false, List, [], ◌∷◌, eqb, length, get_or, set, drop}
+use Rattle.std.specs.Prelude.{ℕ, ◌+◌, ◌≤◌, ◌≡◌, refl, Bool, true, false, List, [], ◌∷◌, eqb, length, get_or, set, drop, if◌then◌else◌}
 use Rattle.std.proofs.Common.{◌∙◌, arith, length-set}
 use Rattle.std.specs.Int.Bits.{bit_or}
-use Rattle.rules.specs.Base.{if◌then◌else◌}
 use Rattle.bench_words.specs.Splitting.{words_of, word_at}
 use Rattle.bench_words.specs.SplittingLaws.{word-inside}
 use Rattle.bench_words.specs.Texts.{same, text_in}

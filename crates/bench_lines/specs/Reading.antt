@@ -1,7 +1,6 @@
 -- How a line is read: its words against the form of its item, and where it is wrong. Definitions only. Assumes nothing.
-use Rattle.std.specs.Prelude.{ℕ, suc, Bool, true, false, List, [], ◌∷◌, get_or, set, drop, replicate, eqb}
+use Rattle.std.specs.Prelude.{ℕ, suc, Bool, true, false, List, [], ◌∷◌, get_or, set, drop, replicate, eqb, if◌then◌else◌}
 use Rattle.std.specs.Int.Bits.{bit_or}
-use Rattle.rules.specs.Base.{if◌then◌else◌}
 use Rattle.bench_words.specs.Splitting.{words_of, word_at}
 use Rattle.bench_words.specs.Numbers.{number_of, time_of}
 use Rattle.bench_words.specs.Texts.{bytes, padded, same, text_in}

@@ -1,5 +1,5 @@
 -- What words with a point read as, by their digits; words without one read as they did before there were any. Assumes nothing.
-use Rattle.std.specs.Prelude.{◌≡◌, refl, ℕ, zero, suc, ◌+◌, ◌-◌, ◌*◌, ◌^◌, ◌≤◌, ◌<◌, Bool, true, false, not, ◌&&◌, List, [], ◌∷◌, ◌++◌, length, get_or, take, drop, replicate, T, ltb, leb, eqb, pos, Float}
+use Rattle.std.specs.Prelude.{◌≡◌, refl, ℕ, zero, suc, ◌+◌, ◌-◌, ◌*◌, ◌^◌, ◌≤◌, ◌<◌, Bool, true, false, not, ◌&&◌, List, [], ◌∷◌, ◌++◌, length, get_or, take, drop, replicate, T, ltb, leb, eqb, pos, Float, if◌then◌else◌}
 use Rattle.std.proofs.Common.{sym, ap, ap₂, ◌∙◌, subst, le_trans, lt_of_lt_of_le, le_of_eq, mul-le-mul_right, mul_assoc, mul-one, add-zero, add-one, arith, lt-ltb, le-ltb, le-leb, ltb-true, leb-true, eqb-true, ne_eqb, length-append, length-drop, take-append-drop, take_at, drop-cons, pow_pos}
 use Rattle.std.proofs.Math.Nat.{pow-succ'}
 use Rattle.std.proofs.lemmas.Bool.{false≢true}
@@ -16,7 +16,6 @@ use Rattle.times.specs.Order as Order
 use Rattle.times.specs.Rounded.{round-at}
 use Rattle.times.specs.Laws.{time-decides, time-fits, instant-time, latest-time}
 use Rattle.times.specs.Whole.{tick, tick-time}
-use Rattle.rules.specs.Base.{if◌then◌else◌}
 use Rattle.bench_words.specs.declared.Number.{Number}
 use Rattle.bench_words.specs.declared.Number.TheVariants.{Is, Not}
 use Rattle.bench_words.specs.Texts.{is_dot, text_span}

@@ -1,5 +1,5 @@
 -- The laws of numerals: their steps, and what the code asks before it takes one digit more. Assumes nothing.
-use Rattle.std.specs.Prelude.{ℕ, ◌+◌, ◌*◌, ◌-◌, ◌/◌, ◌≤◌, ◌<◌, refl, Bool, true, false, ◌&&◌, length, get_or, drop, T, ltb, pos}
+use Rattle.std.specs.Prelude.{ℕ, ◌+◌, ◌*◌, ◌-◌, ◌/◌, ◌≤◌, ◌<◌, refl, Bool, true, false, ◌&&◌, length, get_or, drop, T, ltb, pos, if◌then◌else◌}
 use Rattle.std.proofs.Math.Path.{◌≡◌}
 use mathlib.Core.List.{List, [], ◌∷◌, ◌++◌}
 use Rattle.std.proofs.Common.{div-lt_iff_lt-mul, le-div_iff_mul-le, add-one, arith, drop_of_length-le, drop-cons, le→leb}
@@ -7,7 +7,6 @@ use borrow.Author.Tests.{lt-ltb, le-ltb, le-leb, lt-leb, leb-true}
 use Rattle.std.proofs.Math.Dec.{leb}
 use Rattle.std.specs.Float.{binary64}
 use Rattle.std.specs.Float.Ieee.{in_float}
-use Rattle.rules.specs.Base.{if◌then◌else◌}
 use Rattle.bench_words.specs.declared.Number.{Number}
 use Rattle.bench_words.specs.declared.Number.TheVariants.{Is, Not}
 use Rattle.bench_words.specs.Numbers.{digit_of, numeral, number_of, has_bits, has_point, ticks, decimal_of, time_of}

@@ -1,6 +1,5 @@
 -- A text's lines, a line's words, and where they stand. Definitions only. Assumes nothing.
-use Rattle.std.specs.Prelude.{ℕ, suc, ◌+◌, Bool, not, ◌||◌, List, [], ◌∷◌, ◌++◌, drop, eqb}
-use Rattle.rules.specs.Base.{if◌then◌else◌}
+use Rattle.std.specs.Prelude.{ℕ, suc, ◌+◌, Bool, not, ◌||◌, List, [], ◌∷◌, ◌++◌, drop, eqb, if◌then◌else◌}
 use Rattle.bench_words.specs.declared.Span.{Span}
 
 -- ---- bytes

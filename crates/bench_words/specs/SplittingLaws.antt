@@ -1,12 +1,11 @@
 -- The laws of lines and words: a span by its bytes, and that the next line and the next word stand where the spans say. Assumes nothing.
-use Rattle.std.specs.Prelude.{ℕ, zero, suc, ◌+◌, ◌-◌, ◌≤◌, ◌<◌, ◌≡◌, refl, Bool, true, false, not, ◌||◌, List, [], ◌∷◌, ◌++◌, length, get_or, take}
+use Rattle.std.specs.Prelude.{ℕ, zero, suc, ◌+◌, ◌-◌, ◌≤◌, ◌<◌, ◌≡◌, refl, Bool, true, false, not, ◌||◌, List, [], ◌∷◌, ◌++◌, length, get_or, take, if◌then◌else◌}
 use Rattle.std.proofs.Common.{sym, ◌∙◌, append_assoc, add-one, drop_of_length-le, eqb-true, drop-cons}
 use Rattle.std.proofs.Math.Path.{ap}
 use Rattle.std.proofs.lemmas.Bool.{false≢true}
 use native.Mathlib.Omega.{arith}
 use Rattle.std.proofs.Math.ListN.{drop, length-drop}
 use Rattle.std.proofs.Math.Seq.{drop-drop}
-use Rattle.rules.specs.Base.{if◌then◌else◌}
 use Rattle.bench_words.specs.declared.Span.{Span}
 use Rattle.bench_words.specs.Splitting.{is_blank, is_colon, is_comment, is_plain, is_newline, span_of, line_span, word_span, lines_from, lines_of, words_from, words_of, word_at}
 

@@ -1,10 +1,9 @@
 -- The laws of the comparison of a word with a text, byte by byte. Assumes nothing.
-use Rattle.std.specs.Prelude.{ℕ, suc, ◌+◌, ◌-◌, ◌≤◌, ◌<◌, ◌≡◌, refl, Bool, true, false, List, [], ◌∷◌, eqb, length, get_or, drop}
+use Rattle.std.specs.Prelude.{ℕ, suc, ◌+◌, ◌-◌, ◌≤◌, ◌<◌, ◌≡◌, refl, Bool, true, false, List, [], ◌∷◌, eqb, length, get_or, drop, if◌then◌else◌}
 use Rattle.std.proofs.Common.{ap, add-one}
 use borrow.Author.Tests.{eq-eqb, ne_eqb}
 use Rattle.std.proofs.Math.ListN.{drop_of_length-le}
 use Rattle.std.proofs.Math.Seq.{drop-cons}
-use Rattle.rules.specs.Base.{if◌then◌else◌}
 use Rattle.bench_words.specs.Texts.{same}
 
 if-false : (t : Bool) → (if t then false else false) ≡ false

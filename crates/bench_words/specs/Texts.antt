@@ -1,8 +1,7 @@
 -- Texts of 32 bytes, filled up with dots, and when a word is one. Definitions only. Assumes nothing.
-use Rattle.std.specs.Prelude.{ℕ, ◌-◌, Bool, true, false, not, List, [], ◌∷◌, ◌++◌, length, take, replicate, eqb}
+use Rattle.std.specs.Prelude.{ℕ, ◌-◌, Bool, true, false, not, List, [], ◌∷◌, ◌++◌, length, take, replicate, eqb, if◌then◌else◌}
 use Prim.Native.String.{String, [] as empty, ◌∷◌ as ◌then◌}
 use Prim.Native.Char.{code}
-use Rattle.rules.specs.Base.{if◌then◌else◌}
 use Rattle.bench_words.specs.Splitting.{span_of}
 
 -- the bytes of a text of one-byte characters

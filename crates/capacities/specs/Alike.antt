@@ -1,10 +1,10 @@
 -- Intake's verdict does not hang on the capacity of a row that omits it, so the migration leaves it as it was. Assumes nothing.
-use Rattle.std.specs.Prelude.{ℕ, suc, ◌+◌, ◌≤◌, ◌≡◌, refl, Bool, true, false, not, ◌&&◌, List, [], ◌∷◌, map, length, leb, ltb, eqb}
+use Rattle.std.specs.Prelude.{ℕ, suc, ◌+◌, ◌≤◌, ◌≡◌, refl, Bool, true, false, not, ◌&&◌, List, [], ◌∷◌, map, length, leb, ltb, eqb, if◌then◌else◌}
 use Rattle.std.proofs.Common.{sym, ap, ◌∙◌, subst, inl, inr, arith, eq-eqb, ne_eqb}
 use Rattle.std.proofs.Math.Option.{Option, none, some}
 use Rattle.rules.specs.declared.Processor.{Processor}
 use Rattle.rules.specs.Sizes.{is_id, is_port, deepest, most_rows, most_connectors, most_couplings, omitted_capacity}
-use Rattle.rules.specs.Base.{if◌then◌else◌, every, some_of, hold}
+use Rattle.rules.specs.Base.{every, some_of, hold}
 use Rattle.rules.specs.Decides.{same, either}
 use Rattle.rules.specs.Table.{Kind, processor, Row, Coupling, external_input, external_output, internal_coupling, is_coupled, is_parent}
 use Rattle.rules.specs.Intake as Intake

@@ -1,12 +1,12 @@
 -- The migration's promises, for every slice of words: what it writes is read as what was there was read before A7, no row omits the field then, and no other word moves. Assumes nothing.
-use Rattle.std.specs.Prelude.{ℕ, zero, suc, ◌+◌, ◌*◌, ◌/◌, ◌%◌, ◌≤◌, ◌<◌, ◌≡◌, refl, Bool, true, false, not, ◌&&◌, List, [], ◌∷◌, map, ltb, eqb, length, set, get_or, take, drop}
+use Rattle.std.specs.Prelude.{ℕ, zero, suc, ◌+◌, ◌*◌, ◌/◌, ◌%◌, ◌≤◌, ◌<◌, ◌≡◌, refl, Bool, true, false, not, ◌&&◌, List, [], ◌∷◌, map, ltb, eqb, length, set, get_or, take, drop, if◌then◌else◌}
 use Rattle.std.proofs.Common.{sym, ap, ◌∙◌, inl, inr, arith, eq-eqb, ne_eqb, lt-ltb, length-append, length-drop, length-take, take-append-drop, drop_of_length-le, take_all, take_at, drop_at, drop-drop, length-take-le, lt-length-set, get_or-set_same, get_or-set_other}
 use Rattle.std.proofs.lemmas.Bool.{false≢true}
 use Rattle.std.proofs.lemmas.Simd.{map-map}
 use Rattle.std.proofs.Math.Option.{Option, none, some}
 use Rattle.std.proofs.Math.Decide.{dec_le}
 use Rattle.rules.specs.Sizes.{is_port, omitted_capacity}
-use Rattle.rules.specs.Base.{if◌then◌else◌, every, hold, those}
+use Rattle.rules.specs.Base.{every, hold, those}
 use Rattle.rules.specs.Decides.{same, either}
 use Rattle.rules.specs.Ends.{no-some}
 use Rattle.rules.specs.Table.{Kind, processor, batcher, stopwatch, coupled, Row}

@@ -1,7 +1,6 @@
 -- A7 of 02: "Stored tables that relied on the old reading .. get 2^64 - 1 written out." Definitions only. Assumes nothing.
-use Rattle.std.specs.Prelude.{ℕ, ◌+◌, ◌-◌, ◌^◌, List, [], ◌∷◌, ◌++◌, map, set, eqb}
+use Rattle.std.specs.Prelude.{ℕ, ◌+◌, ◌-◌, ◌^◌, List, [], ◌∷◌, ◌++◌, map, set, eqb, if◌then◌else◌}
 use Rattle.std.proofs.Math.Option.{Option, some}
-use Rattle.rules.specs.Base.{if◌then◌else◌}
 use Rattle.rules.specs.Table.{Kind, processor, Row}
 use Rattle.rules.specs.Intake.{Posted}
 use Rattle.rules.specs.Layout.{rows_of, cell, is_given, kind_in, row_in, omits_capacity, model_width, connector_width, coupling_width, connector_row, coupling_row}

@@ -1,7 +1,7 @@
 -- The rows of a slice one by one: how many omit the field, and the slice as the migration leaves it. Assumes nothing.
-use Rattle.std.specs.Prelude.{ℕ, zero, suc, ◌+◌, ◌/◌, ◌%◌, ◌≤◌, ◌<◌, ◌≡◌, refl, Bool, true, false, List, [], ◌∷◌, ◌++◌, map, T, length, set, take, drop}
+use Rattle.std.specs.Prelude.{ℕ, zero, suc, ◌+◌, ◌/◌, ◌%◌, ◌≤◌, ◌<◌, ◌≡◌, refl, Bool, true, false, List, [], ◌∷◌, ◌++◌, map, T, length, set, take, drop, if◌then◌else◌}
 use Rattle.std.proofs.Common.{sym, ap, ◌∙◌, subst, append-nil, append_assoc, arith, ne_eqb, length-drop, length-set, drop_of_length-le, take_all, drop-drop}
-use Rattle.rules.specs.Base.{if◌then◌else◌, those}
+use Rattle.rules.specs.Base.{those}
 use Rattle.rules.specs.Decides.{Decides, tells, reads, fails, ◌and◌, alone, below, same}
 use Rattle.rules.specs.Layout.{cut, rows_of, cell, omits_capacity, omitted_in}
 use Rattle.words.specs.Lists.{part_length}

@@ -1,6 +1,6 @@
 -- A state's table migrated, by today's reading: it holds the same jobs, messages, clock and place, and passes 20 if it did. Assumes nothing.
 use Prim.Native.Nat.{ℕ, zero, suc, ◌+◌, ◌≤◌}
-use Rattle.std.specs.Prelude.{◌≡◌, Bool, true, false, not, ◌&&◌, List, [], ◌∷◌, map, eqb, length, get_or}
+use Rattle.std.specs.Prelude.{◌≡◌, Bool, true, false, not, ◌&&◌, List, [], ◌∷◌, map, eqb, length, get_or, if◌then◌else◌}
 use Rattle.std.proofs.Math.Path.{refl, sym}
 use Rattle.std.proofs.Common.{ap, ◌∙◌, arith, leb-true, le-leb}
 use Rattle.std.proofs.lemmas.Bool.{false≢true}
@@ -8,7 +8,7 @@ use Rattle.std.proofs.Math.Option.{some}
 use Rattle.std.proofs.Math.Dec.{leb}
 use Rattle.times.specs.Time.{is_time, is_timer}
 use Rattle.rules.specs.Sizes.{is_content, is_word, most_jobs, most_active}
-use Rattle.rules.specs.Base.{if◌then◌else◌, every, hold, from, is_empty}
+use Rattle.rules.specs.Base.{every, hold, from, is_empty}
 use Rattle.rules.specs.Table.{Kind, Row, Table, no_row, kind_at}
 use Rattle.rules.specs.Intake as Intake
 use Rattle.rules.specs.Intake.{Posted, is_passed, passes_intake, handed}

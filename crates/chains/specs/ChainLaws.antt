@@ -1,5 +1,5 @@
 -- A chain of C calls is the rules' list of calls: on a buffer that holds a simulation it leaves one that holds what the rules leave, and the batcher's promise holds of it. Assumes nothing.
-use Rattle.std.specs.Prelude.{ℕ, ◌+◌, ◌-◌, ◌≤◌, ◌≡◌, refl, Bool, true, false, not, List, [], ◌∷◌, ◌++◌, length, get_or, take, drop, T}
+use Rattle.std.specs.Prelude.{ℕ, ◌+◌, ◌-◌, ◌≤◌, ◌≡◌, refl, Bool, true, false, not, List, [], ◌∷◌, ◌++◌, length, get_or, take, drop, T, if◌then◌else◌}
 use Rattle.std.proofs.Common.{sym, ap, subst, ◌∙◌, arith, length-append, length-drop, length-take-le, drop-drop, T_not, leb→le}
 use Rattle.std.proofs.Math.Option.{Option, none, some}
 use Rattle.std.proofs.Math.Seq.{drop-append-add}
@@ -8,7 +8,7 @@ use Rattle.rules.specs.declared.Batcher.{Batcher}
 use Rattle.rules.specs.declared.Refusal.{Refusal}
 use Rattle.rules.specs.declared.Refusal.TheVariants.{TooLarge, BadRow, BadCoupling, ModelNotFound, InvalidMessage, InvalidModelState, NoQueueRoom, NoMessageRoom, NoServiceTime, BadTime, ClockOverflow, Idle, NoOutRoom, BadBlock, BadState}
 use Rattle.rules.specs.Names.{number}
-use Rattle.rules.specs.Base.{Outcome, refused, done, ◌>>=◌, if◌then◌else◌}
+use Rattle.rules.specs.Base.{Outcome, refused, done, ◌>>=◌}
 use Rattle.rules.specs.Table.{Table, batcher, kind_at}
 use Rattle.rules.specs.Intake.{Posted, Verdict, too_large, bad_row, bad_connector, bad_coupling, passed, intake, taken_in}
 use Rattle.rules.specs.Layout.{lent}

@@ -1,6 +1,6 @@
 -- The laws of a run in place: rows laid down behind others, what the run so far has in common with the whole, how each end is told; a state that 20 lets pass; and a run that no clock ends. Assumes nothing.
 use Prim.Native.Nat.{ℕ, zero, suc, ◌+◌, ◌-◌, ◌*◌, ◌≤◌, ◌<◌}
-use Rattle.std.specs.Prelude.{◌≡◌, Bool, true, false, List, [], ◌∷◌, ◌++◌, take, drop, T, leb, Float}
+use Rattle.std.specs.Prelude.{◌≡◌, Bool, true, false, List, [], ◌∷◌, ◌++◌, take, drop, T, leb, Float, if◌then◌else◌}
 use Rattle.std.proofs.Math.Path.{refl, ap}
 use Rattle.std.proofs.Common.{sym, ◌∙◌, subst, append_assoc, append-nil, le_of_eq, length-append, length-drop, drop_of_length-le, take_at, drop_at, drop-drop}
 use native.Mathlib.Omega.{arith}
@@ -14,7 +14,7 @@ use Rattle.times.specs.Order.{same_test, Number, at}
 use Rattle.rules.specs.declared.Refusal.{Refusal}
 use Rattle.rules.specs.declared.Refusal.TheVariants.{BadTime, NoOutRoom}
 use Rattle.rules.specs.declared.Message.{Message}
-use Rattle.rules.specs.Base.{Outcome, refused, done, ◌>>=◌, if◌then◌else◌}
+use Rattle.rules.specs.Base.{Outcome, refused, done, ◌>>=◌}
 use Rattle.rules.specs.Sizes.{is_word}
 use Rattle.rules.specs.Table.{Table}
 use Rattle.rules.specs.Simulation.{Simulation}

@@ -1,6 +1,6 @@
 -- What is not known takes nothing: a message to an end that names no model reaches nobody, and one to a port that is not there is refused with 5 or ignored (but a Batcher takes it). Assumes nothing.
 use Prim.Native.Nat.{ℕ, suc, ◌<◌}
-use Rattle.std.specs.Prelude.{◌≡◌, refl, ◌↔◌, Bool, true, false, List, [], ◌∷◌, ◌++◌, length, T, eqb, Float}
+use Rattle.std.specs.Prelude.{◌≡◌, refl, ◌↔◌, Bool, true, false, List, [], ◌∷◌, ◌++◌, length, T, eqb, Float, if◌then◌else◌}
 use Rattle.std.proofs.Common.{sym, ap, ◌∙◌, inl, inr, arith}
 use Rattle.std.proofs.lemmas.Bool.{false≢true}
 use Rattle.std.proofs.Math.Option.{Option, some}
@@ -9,7 +9,7 @@ use Rattle.rules.specs.declared.Refusal.TheVariants.{ModelNotFound, InvalidMessa
 use Rattle.rules.specs.declared.Processor.{Processor}
 use Rattle.rules.specs.declared.Stopwatch.{Stopwatch}
 use Rattle.rules.specs.declared.Message.{Message}
-use Rattle.rules.specs.Base.{Outcome, refused, done, ◌>>=◌, if◌then◌else◌, each, those, chosen, from}
+use Rattle.rules.specs.Base.{Outcome, refused, done, ◌>>=◌, each, those, chosen, from}
 use Rattle.rules.specs.Table.{processor, stopwatch, coupled, Coupling, external_input, external_output, internal_coupling, Table, row_at, id_at, kind_at, is_parent, is_parentless, parentless, components, inputs}
 use Rattle.rules.specs.Simulation.{Simulation, ProcessorState, StopwatchState, Parked, state_at, as_processor, as_stopwatch, of_processor, of_stopwatch}
 use Rattle.rules.specs.Models.{Fate, Passed, processor_external, stopwatch_external}

@@ -1,7 +1,7 @@
 -- Which ends of connectors, couplings and injections "[name] no model or a port that the model does not have". Definitions only. Assumes nothing.
-use Rattle.std.specs.Prelude.{ℕ, ◌/◌, Bool, true, false, List, [], ◌∷◌, map, length, eqb}
+use Rattle.std.specs.Prelude.{ℕ, ◌/◌, Bool, true, false, List, [], ◌∷◌, map, length, eqb, if◌then◌else◌}
 use Rattle.std.proofs.Math.Option.{Option, none, some}
-use Rattle.rules.specs.Base.{if◌then◌else◌, those, chosen, from}
+use Rattle.rules.specs.Base.{those, chosen, from}
 use Rattle.rules.specs.Table.{Coupling, external_input, external_output, internal_coupling, Table, id_at, kind_at, is_parent, is_parentless, parentless, components}
 use Rattle.rules.specs.Valid.{member}
 use Rattle.rules.specs.Layout.{model_width, coupling_width, parent_in, kind_in}

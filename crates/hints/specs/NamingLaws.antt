@@ -1,12 +1,12 @@
 -- What the private functions of `hints` answer, and the searches that tell what an end names. Assumes nothing.
-use Rattle.std.specs.Prelude.{ℕ, ◌/◌, ◌≡◌, refl, Bool, true, false, ◌&&◌, List, [], ◌∷◌, map, length, eqb}
+use Rattle.std.specs.Prelude.{ℕ, ◌/◌, ◌≡◌, refl, Bool, true, false, ◌&&◌, List, [], ◌∷◌, map, length, eqb, if◌then◌else◌}
 use Rattle.std.proofs.Math.Path.{sym, ap}
 use Rattle.std.proofs.Common.{◌∙◌, arith}
 use Rattle.std.proofs.lemmas.Bool.{false≢true}
 use Rattle.std.proofs.Math.Option.{Option, none, some}
 use Rattle.std.proofs.Math.Nat.{sub-zero}
 use borrow.Author.Tests.{eqb-true}
-use Rattle.rules.specs.Base.{if◌then◌else◌, those, chosen, some_of, from}
+use Rattle.rules.specs.Base.{those, chosen, some_of, from}
 use Rattle.rules.specs.Table.{is_parent, is_parentless}
 use Rattle.rules.specs.Valid.{member}
 use Rattle.rules.specs.Layout.{cell, model_width, coupling_width, parent_in, kind_in}

@@ -1,9 +1,9 @@
 -- What 20 asks of a lent state, part by part, as the code goes over it. Definitions only. Assumes nothing.
-use Rattle.std.specs.Prelude.{ℕ, ◌+◌, Bool, List, [], ◌∷◌, map, length, leb, eqb}
+use Rattle.std.specs.Prelude.{ℕ, ◌+◌, Bool, List, [], ◌∷◌, map, length, leb, eqb, if◌then◌else◌}
 use Rattle.std.specs.Float.{binary64}
 use Rattle.std.specs.Float.Ieee.{of_bits}
 use Rattle.times.specs.Time.{is_time}
-use Rattle.rules.specs.Base.{if◌then◌else◌, every, hold, from}
+use Rattle.rules.specs.Base.{every, hold, from}
 use Rattle.rules.specs.Sizes.{is_content, most_jobs, most_active}
 use Rattle.rules.specs.Table.{Kind, processor, batcher, stopwatch, coupled, Table, kind_at}
 use Rattle.rules.specs.Intake.{intake, is_passed}

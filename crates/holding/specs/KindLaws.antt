@@ -1,5 +1,5 @@
 -- The kind of a row of a table that has passed intake, by its words: its number, and a processor's capacity. Assumes nothing.
-use Rattle.std.specs.Prelude.{ℕ, ◌+◌, ◌*◌, ◌≤◌, ◌<◌, ◌/◌, ◌%◌, ◌≡◌, Bool, List, length, get_or, drop, eqb}
+use Rattle.std.specs.Prelude.{ℕ, ◌+◌, ◌*◌, ◌≤◌, ◌<◌, ◌/◌, ◌%◌, ◌≡◌, Bool, List, length, get_or, drop, eqb, if◌then◌else◌}
 use Rattle.std.proofs.Math.Path.{refl, sym, ap}
 use Rattle.std.proofs.Common.{◌∙◌, arith, get_or-take, get_or-drop}
 use Rattle.std.proofs.Math.Bool.{true, false}
@@ -9,7 +9,6 @@ use Rattle.rules.specs.declared.Processor.{Processor}
 use Rattle.rules.specs.declared.Batcher.{Batcher}
 use Rattle.rules.specs.declared.Stopwatch.{Stopwatch}
 use Rattle.rules.specs.declared.Metric.{Metric}
-use Rattle.rules.specs.Base.{if◌then◌else◌}
 use Rattle.rules.specs.Sizes.{omitted_capacity}
 use Rattle.rules.specs.Table.{Kind, processor, batcher, stopwatch, coupled, kind_at}
 use Rattle.rules.specs.Valid.{kind_number}

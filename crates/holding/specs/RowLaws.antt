@@ -1,5 +1,5 @@
 -- The laws of a row: what 20 asks of its words and of the state that they hold, by the tests of the code; and of loops that end at the first place that fails, or that join all places. Assumes nothing.
-use Rattle.std.specs.Prelude.{ℕ, zero, suc, ◌+◌, ◌-◌, ◌≤◌, ◌<◌, ◌^◌, ◌/◌, ◌%◌, ◌≡◌, refl, Bool, true, false, not, ◌&&◌, List, [], ◌∷◌, map, length, get_or, take, drop, leb, ltb, eqb}
+use Rattle.std.specs.Prelude.{ℕ, zero, suc, ◌+◌, ◌-◌, ◌≤◌, ◌<◌, ◌^◌, ◌/◌, ◌%◌, ◌≡◌, refl, Bool, true, false, not, ◌&&◌, List, [], ◌∷◌, map, length, get_or, take, drop, leb, ltb, eqb, if◌then◌else◌}
 use Rattle.std.proofs.Math.Path.{sym, ap, subst}
 use Rattle.std.proofs.Common.{◌∙◌, inl, inr, lt_of_not-le, length-drop, take_all, length-take-le, drop-cons, get_or-take, get_or-drop, eqb→eq, lt→ltb}
 use Rattle.std.proofs.Math.Nat.{sub-zero}
@@ -16,7 +16,7 @@ use Rattle.times.specs.Order.{same_test}
 use Rattle.rules.specs.declared.Processor.{Processor}
 use Rattle.rules.specs.declared.Batcher.{Batcher}
 use Rattle.rules.specs.declared.Stopwatch.{Stopwatch}
-use Rattle.rules.specs.Base.{if◌then◌else◌, every, hold, from, is_empty}
+use Rattle.rules.specs.Base.{every, hold, from, is_empty}
 use Rattle.rules.specs.Sizes.{is_content}
 use Rattle.rules.specs.Table.{processor, batcher, stopwatch, coupled}
 use Rattle.rules.specs.Simulation.{Parked}

@@ -1,6 +1,5 @@
 -- Words against those that were told. Definitions only. Assumes nothing.
-use Rattle.std.specs.Prelude.{ℕ, suc, Bool, true, false, List, [], ◌∷◌, length, take, drop, eqb, ltb}
-use Rattle.rules.specs.Base.{if◌then◌else◌}
+use Rattle.std.specs.Prelude.{ℕ, suc, Bool, true, false, List, [], ◌∷◌, length, take, drop, eqb, ltb, if◌then◌else◌}
 use Rattle.judging.specs.declared.Seen.{Seen}
 use Rattle.judging.specs.declared.Seen.TheVariants.{Same, Answer, State, Wrong}
 

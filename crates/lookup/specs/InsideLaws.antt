@@ -1,9 +1,9 @@
 -- The laws of the table inside a lent state: where its parts stand, how many rows they have, what a search in them finds, and how wide their words are. Assumes nothing.
-use Rattle.std.specs.Prelude.{ℕ, zero, suc, ◌+◌, ◌-◌, ◌*◌, ◌≤◌, ◌<◌, ◌≡◌, refl, Bool, true, false, List, [], ◌∷◌, map, length, get_or, take, drop, T, eqb}
+use Rattle.std.specs.Prelude.{ℕ, zero, suc, ◌+◌, ◌-◌, ◌*◌, ◌≤◌, ◌<◌, ◌≡◌, refl, Bool, true, false, List, [], ◌∷◌, map, length, get_or, take, drop, T, eqb, if◌then◌else◌}
 use Rattle.std.proofs.Common.{sym, ap, ◌∙◌, subst, arith, zero-add, add-zero, eqb-true, get_or-take, get_or-drop, ltb→lt}
 use Rattle.std.proofs.Math.Option.{none, some}
 use Rattle.std.proofs.Math.Nat.{sub-zero}
-use Rattle.rules.specs.Base.{if◌then◌else◌, those, hold, from}
+use Rattle.rules.specs.Base.{those, hold, from}
 use Rattle.rules.specs.Sizes.{is_id}
 use Rattle.rules.specs.Table.{Row, Connector, Coupling, row_at, id_at, kind_at, is_coupled, is_parent, is_parentless, components, parentless, connected, inputs, outputs, internals}
 use Rattle.rules.specs.Intake.{connector_rules, coupling_rules}

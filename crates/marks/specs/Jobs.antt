@@ -1,5 +1,5 @@
 -- A stopwatch's jobs in lent words: from the words to the rules' list of jobs, and what is read from it. Assumes nothing.
-use Rattle.std.specs.Prelude.{ℕ, ◌+◌, Bool, ◌&&◌, List, [], ◌∷◌, map, length, from_bits, nat_le, slice_index, Float}
+use Rattle.std.specs.Prelude.{ℕ, ◌+◌, Bool, ◌&&◌, List, [], ◌∷◌, map, length, from_bits, nat_le, slice_index, Float, if◌then◌else◌}
 use Rattle.std.proofs.Math.Option.{Option, none, some}
 use Rattle.std.specs.Float.{binary64}
 use Rattle.times.specs.Time.{is_timer}
@@ -8,7 +8,7 @@ use Rattle.times.specs.declared.TimeOf.{TimeOf}
 use Rattle.times.specs.declared.TimeOf.TheVariants.{Time, Bad}
 use Rattle.rules.specs.declared.Metric.{Metric}
 use Rattle.rules.specs.Sizes.{most_jobs}
-use Rattle.rules.specs.Base.{if◌then◌else◌, every, hold, from}
+use Rattle.rules.specs.Base.{every, hold, from}
 use Rattle.rules.specs.Simulation.{Marks}
 use Rattle.rules.specs.Models.{durations, fetched, mean}
 use Rattle.rules.specs.Valid.{marks_rules, differ, names}

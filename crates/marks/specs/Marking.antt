@@ -1,9 +1,8 @@
 -- Setting the clock on a job in lent words. Assumes nothing.
-use Rattle.std.specs.Prelude.{ℕ, suc, ◌+◌, List, nat_eq, nat_lt, slice_index, slice_set, to_bits, Float}
+use Rattle.std.specs.Prelude.{ℕ, suc, ◌+◌, List, nat_eq, nat_lt, slice_index, slice_set, to_bits, Float, if◌then◌else◌}
 use Rattle.std.specs.Float.{binary64}
 use Rattle.times.specs.Time.{never}
 use Rattle.rules.specs.Sizes.{most_jobs}
-use Rattle.rules.specs.Base.{if◌then◌else◌}
 use Rattle.words.specs.Search.{first_from}
 use Rattle.words.specs.declared.Found.{Found}
 use Rattle.words.specs.declared.Found.TheVariants.{At, Nothing}

@@ -1,5 +1,5 @@
 -- The laws of a stopwatch's jobs in lent words, for other crates: what the rules say of them, and what a mark keeps. Assumes nothing.
-use Rattle.std.specs.Prelude.{◌≡◌, ℕ, zero, suc, ◌+◌, ◌-◌, ◌^◌, ◌<◌, ◌≤◌, Bool, true, false, T, ◌⊎◌, List, [], ◌∷◌, ◌++◌, map, length, take, drop, set, ◌==◌, ◌≢◌, nat_le, nat_lt, slice_index, slice_index_or, slice_set, refl, Float}
+use Rattle.std.specs.Prelude.{◌≡◌, ℕ, zero, suc, ◌+◌, ◌-◌, ◌^◌, ◌<◌, ◌≤◌, Bool, true, false, T, ◌⊎◌, List, [], ◌∷◌, ◌++◌, map, length, take, drop, set, ◌==◌, ◌≢◌, nat_le, nat_lt, slice_index, slice_index_or, slice_set, refl, Float, if◌then◌else◌}
 use Rattle.std.proofs.Common.{sym, ap, ◌∙◌, subst, arith, eq-or-lt_of_le, inl, inr, ⊎_elim, length-set, drop-cons, drop-set-lt, get_or-take, get_or-set_same, get_or-set_other, leb→le, le→leb, eqb→eq, lt→ltb}
 use borrow.Author.Tests.{lt-ltb, le-ltb, ltb-true, ltb-false, eqb-true, eqb-false}
 use Rattle.std.proofs.lemmas.Simd.{map-map}
@@ -14,7 +14,7 @@ use Rattle.times.specs.Laws.{time-timer, timer-fits, never-timer}
 use Rattle.times.specs.Answers.{time_of_bits, bits_back}
 use Rattle.rules.specs.declared.Refusal.TheVariants.{NoQueueRoom, BadState}
 use Rattle.rules.specs.Sizes.{is_content, most_jobs}
-use Rattle.rules.specs.Base.{Outcome, refused, done, if◌then◌else◌, every, some_of, hold, from}
+use Rattle.rules.specs.Base.{Outcome, refused, done, every, some_of, hold, from}
 use Rattle.rules.specs.Ends.{if-both, if-both-i, parts, whole_of, All, nil, ◌&◌}
 use Rattle.rules.specs.Simulation.{Marks}
 use Rattle.rules.specs.Models.{is_named, marked, started, stopped}

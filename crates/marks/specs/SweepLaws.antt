@@ -1,5 +1,5 @@
 -- The laws of the loops: one job more, the end, and what a test showed. Assumes nothing.
-use Rattle.std.specs.Prelude.{◌≡◌, ℕ, zero, suc, ◌+◌, ◌-◌, ◌*◌, ◌^◌, ◌<◌, ◌≤◌, Bool, true, false, not, ◌&&◌, T, List, [], ◌∷◌, map, length, pos, ◌==◌, ◌≢◌, nat_eq, slice_index, refl, Float}
+use Rattle.std.specs.Prelude.{◌≡◌, ℕ, zero, suc, ◌+◌, ◌-◌, ◌*◌, ◌^◌, ◌<◌, ◌≤◌, Bool, true, false, not, ◌&&◌, T, List, [], ◌∷◌, map, length, pos, ◌==◌, ◌≢◌, nat_eq, slice_index, refl, Float, if◌then◌else◌}
 use Rattle.std.proofs.Common.{sym, ap, ◌∙◌, subst, arith, div-one, lt-ltb, le-ltb}
 use Rattle.std.proofs.Math.Option.{Option, none, some}
 use Rattle.std.specs.Float.{binary64}
@@ -12,7 +12,7 @@ use Rattle.times.specs.declared.TimeOf.TheVariants.{Time, Bad}
 use Rattle.times.specs.declared.TimerOf.TheVariants.{Timer}
 use Rattle.rules.specs.declared.Metric.{Metric}
 use Rattle.rules.specs.Sizes.{is_content}
-use Rattle.rules.specs.Base.{if◌then◌else◌, hold, every, some_of, from}
+use Rattle.rules.specs.Base.{hold, every, some_of, from}
 use Rattle.rules.specs.Simulation.{Marks}
 use Rattle.rules.specs.Models.{Duration, between, durations, better, best_of, fetched, summed, mean}
 use Rattle.rules.specs.Valid.{mark_fits as fitting, marks_rules, names, member, differ}

@@ -1,12 +1,12 @@
 -- What the parts of `fetch`, `mean` and `fit` answer, from a place on. Assumes nothing.
-use Rattle.std.specs.Prelude.{ℕ, zero, suc, ◌+◌, Bool, true, not, ◌&&◌, List, [], ◌∷◌, map, length, ◌==◌, slice_index, Float}
+use Rattle.std.specs.Prelude.{ℕ, zero, suc, ◌+◌, Bool, true, not, ◌&&◌, List, [], ◌∷◌, map, length, ◌==◌, slice_index, Float, if◌then◌else◌}
 use Rattle.std.proofs.Math.Option.{Option, none, some}
 use Rattle.std.specs.Float.{binary64}
 use Rattle.std.specs.Float.Ieee.{sub, add}
 use Rattle.times.specs.Time.{instant}
 use Rattle.rules.specs.declared.Metric.{Metric}
 use Rattle.rules.specs.Sizes.{is_content}
-use Rattle.rules.specs.Base.{if◌then◌else◌, hold, from}
+use Rattle.rules.specs.Base.{hold, from}
 use Rattle.rules.specs.Models.{Duration, durations, better, best_of, fetched, summed}
 use Rattle.words.specs.Search.{first_from}
 use Rattle.words.specs.SearchLaws.{is_found}

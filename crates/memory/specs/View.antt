@@ -1,5 +1,5 @@
 -- From a row's words to its model's state, and what 20 asks of them beyond what it asks of that state. Definitions only. Assumes nothing.
-use Rattle.std.specs.Prelude.{ℕ, ◌/◌, ◌%◌, ◌^◌, Bool, List, [], ◌∷◌, map, T, leb, ltb, eqb}
+use Rattle.std.specs.Prelude.{ℕ, ◌/◌, ◌%◌, ◌^◌, Bool, List, [], ◌∷◌, map, T, leb, ltb, eqb, if◌then◌else◌}
 use Rattle.std.specs.Float.{binary64}
 use Rattle.std.specs.Float.Ieee.{of_bits}
 use Rattle.rules.specs.declared.ProcessorPhase.{ProcessorPhase}
@@ -8,7 +8,6 @@ use Rattle.rules.specs.declared.BatcherPhase.{BatcherPhase}
 use Rattle.rules.specs.declared.BatcherPhase.TheVariants as batching
 use Rattle.rules.specs.declared.StopwatchPhase.{StopwatchPhase}
 use Rattle.rules.specs.declared.StopwatchPhase.TheVariants as watching
-use Rattle.rules.specs.Base.{if◌then◌else◌}
 use Rattle.rules.specs.Sizes.{most_jobs}
 use Rattle.rules.specs.Table.{Kind, processor, batcher, stopwatch, coupled}
 use Rattle.rules.specs.Simulation.{ProcessorState, BatcherState, StopwatchState, Parked, State, of_processor, of_batcher, of_stopwatch, of_coupled}

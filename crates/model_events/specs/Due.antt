@@ -1,12 +1,12 @@
 -- When a model is due: an atom by its own timer, a Coupled with a message parked in it or a component that is due. Assumes nothing.
-use Rattle.std.specs.Prelude.{ℕ, suc, ◌+◌, ◌-◌, ◌≤◌, ◌≡◌, refl, Bool, true, false, List, [], ◌∷◌, map, T, Float}
+use Rattle.std.specs.Prelude.{ℕ, suc, ◌+◌, ◌-◌, ◌≤◌, ◌≡◌, refl, Bool, true, false, List, [], ◌∷◌, map, T, Float, if◌then◌else◌}
 use Rattle.std.proofs.Common.{sym, ◌∙◌, subst, inl, inr, true≢false, arith, add-one}
 use Rattle.std.proofs.Math.Path.{ap}
 use Rattle.std.specs.Float.Ieee.{eq, le}
 use Rattle.times.specs.Time.{instant, never, is_timer, least_of}
 use Rattle.times.specs.Order.{same_test}
 use Rattle.times.specs.Laws.{timers-zero, timers-instant, timers-antisymmetric, least-is-one, least-timer, least-le-first, least-le-second, never-timer, time-timer, instant-time}
-use Rattle.rules.specs.Base.{if◌then◌else◌, some_of, those, from}
+use Rattle.rules.specs.Base.{some_of, those, from}
 use Rattle.rules.specs.Table.{Kind, processor, batcher, stopwatch, coupled, Table, id_at, kind_at, components, is_coupled}
 use Rattle.rules.specs.Simulation.{State, of_processor, of_batcher, of_stopwatch, of_coupled, state_at}
 use Rattle.rules.specs.Step.{least, timer_in, timer, due}

@@ -1,7 +1,6 @@
 -- Calls of jt_step_n one after the other on one state buffer and one output, taken as one. Definitions only. Assumes nothing.
 -- The words of A11 that they state: "a steps and then b steps, with the same service list and the second part's rows going after the first's in the same buffer, shall give the end state, rows, total steps and answer of one call with a + b".
-use Rattle.std.specs.Prelude.{ℕ, ◌+◌, ◌*◌, ◌≡◌, List, [], ◌∷◌, ◌++◌, get_or, take, drop, ltb, eqb, Float}
-use Rattle.rules.specs.Base.{if◌then◌else◌}
+use Rattle.std.specs.Prelude.{ℕ, ◌+◌, ◌*◌, ◌≡◌, List, [], ◌∷◌, ◌++◌, get_or, take, drop, ltb, eqb, Float, if◌then◌else◌}
 use Rattle.rules.specs.Layout.{message_width, room_in, laid_down}
 use Rattle.rules.specs.Calls as Calls
 use Rattle.memory.specs.Words.{word_at}

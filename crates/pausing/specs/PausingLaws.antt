@@ -1,5 +1,5 @@
 -- Running on is the same as running through, of jt_step_n: two calls on one state buffer and one output are one call. Assumes nothing.
-use Rattle.std.specs.Prelude.{ℕ, zero, suc, ◌+◌, ◌-◌, ◌*◌, ◌≤◌, ◌≡◌, refl, Bool, true, false, not, List, [], ◌∷◌, ◌++◌, length, take, drop, T, ltb, eqb, Float}
+use Rattle.std.specs.Prelude.{ℕ, zero, suc, ◌+◌, ◌-◌, ◌*◌, ◌≤◌, ◌≡◌, refl, Bool, true, false, not, List, [], ◌∷◌, ◌++◌, length, take, drop, T, ltb, eqb, Float, if◌then◌else◌}
 use Rattle.std.proofs.Common.{sym, ap, subst, ◌∙◌, append_assoc, arith, length-append, length-drop, length-take-le, take_at, nltb→le, eqb→eq}
 use Rattle.times.specs.Order.{same_test}
 use Rattle.rules.specs.declared.Message.{Message}
@@ -7,7 +7,7 @@ use Rattle.rules.specs.declared.Refusal.{Refusal}
 use Rattle.rules.specs.declared.Refusal.TheVariants.{BadState}
 use Rattle.rules.specs.Names.{number}
 use Rattle.rules.specs.Sizes.{is_word}
-use Rattle.rules.specs.Base.{refused, if◌then◌else◌}
+use Rattle.rules.specs.Base.{refused}
 use Rattle.rules.specs.Layout.{message_width, room_in, laid_down}
 use Rattle.rules.specs.Simulation.{Simulation}
 use Rattle.rules.specs.Valid.{is_valid}

@@ -1,6 +1,6 @@
 -- The words of new rows, by the lent models; a state's words up to its messages. Definitions only. Assumes nothing.
-use Rattle.std.specs.Prelude.{ℕ, ◌+◌, ◌*◌, ◌/◌, ◌≤◌, ◌≡◌, List, [], ◌∷◌, ◌++◌, map, length, get_or, eqb}
-use Rattle.rules.specs.Base.{if◌then◌else◌, from}
+use Rattle.std.specs.Prelude.{ℕ, ◌+◌, ◌*◌, ◌/◌, ◌≤◌, ◌≡◌, List, [], ◌∷◌, ◌++◌, map, length, get_or, eqb, if◌then◌else◌}
+use Rattle.rules.specs.Base.{from}
 use Rattle.rules.specs.Table.{Table}
 use Rattle.rules.specs.Intake.{intake, passed}
 use Rattle.rules.specs.Decides.{whole_table}

@@ -1,6 +1,6 @@
 -- The laws of new rows: their words by the number of their kind; that they are the rules' fresh ones for a table that passed; and so the words of a state with new rows. Assumes nothing.
 use Prim.Native.Nat.{ℕ, zero, suc, ◌+◌, ◌-◌, ◌*◌, ◌/◌, ◌≤◌, ◌<◌}
-use Rattle.std.specs.Prelude.{◌≡◌, refl, Bool, true, false, get_or, eqb, Float}
+use Rattle.std.specs.Prelude.{◌≡◌, refl, Bool, true, false, get_or, eqb, Float, if◌then◌else◌}
 use Rattle.std.proofs.Common.{sym, ◌∙◌, zero-add, add-zero, suc-add, zero-mul, add-one, arith, eqb-true, ext_get_or}
 use Rattle.std.proofs.Math.Path.{ap}
 use mathlib.Core.List.{List, [], ◌∷◌, ◌++◌, append_assoc}
@@ -10,7 +10,6 @@ use Rattle.std.proofs.Math.ListN.{length, get_or-map}
 use Rattle.std.proofs.lemmas.List.{length-map}
 use Rattle.std.specs.Float.Ieee.{binary64, of_bits, to_bits}
 use Rattle.rules.specs.declared.Metric.{Metric}
-use Rattle.rules.specs.Base.{if◌then◌else◌}
 use Rattle.rules.specs.declared.Message.{Message}
 use Rattle.rules.specs.Table.{Kind, processor, batcher, coupled, Row, Table, no_row, kind_at}
 use Rattle.rules.specs.Ends.{no-some}

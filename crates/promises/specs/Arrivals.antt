@@ -1,6 +1,6 @@
 -- What is sent to a batcher is accepted: a step that is not refused has a parentless batcher accept every active message with its id, in list order, and nothing else. Assumes nothing.
 use Prim.Native.Nat.{ℕ, zero, suc, ◌+◌, ◌≤◌, ◌<◌}
-use Rattle.std.specs.Prelude.{◌≡◌, Bool, not, length, get_or, Float}
+use Rattle.std.specs.Prelude.{◌≡◌, Bool, not, length, get_or, Float, if◌then◌else◌}
 use Rattle.std.proofs.Math.Path.{refl, sym, ap, subst}
 use Rattle.std.proofs.Common.{◌∙◌, arith, eqb→eq}
 use Rattle.std.proofs.Math.Bool.{true, false}
@@ -11,7 +11,7 @@ use Rattle.rules.specs.declared.Refusal.TheVariants.{NoMessageRoom}
 use Rattle.rules.specs.declared.Batcher.{Batcher}
 use Rattle.rules.specs.declared.Message.{Message}
 use Rattle.rules.specs.Sizes.{most_parked, most_out, deepest}
-use Rattle.rules.specs.Base.{Outcome, done, if◌then◌else◌, each, those, from, at_most}
+use Rattle.rules.specs.Base.{Outcome, done, each, those, from, at_most}
 use Rattle.rules.specs.Table.{Kind, processor, batcher, stopwatch, coupled, Row, Table, Target, no_row, row_at, id_at, kind_at, is_parent, is_parentless, parentless, components, inputs, outputs, internals}
 use Rattle.rules.specs.Simulation.{Parked, of_processor, of_batcher, of_stopwatch, of_coupled, Simulation, state_at, as_processor, as_batcher, as_stopwatch, as_coupled}
 use Rattle.rules.specs.Models.{Fate, Kept, Passed, processor_external, processor_internal, batcher_external, batcher_internal, stopwatch_external, stopwatch_internal}

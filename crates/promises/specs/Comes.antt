@@ -1,12 +1,12 @@
 -- What comes to a batcher is neither lost nor doubled nor overtaken: what it held at first and then all that comes to it is what it releases and then holds, in any calls on a valid simulation, of every batcher row, inside Coupleds too, whatever it holds at first. Assumes nothing.
-use Rattle.std.specs.Prelude.{ℕ, ◌+◌, ◌≡◌, refl, Bool, true, false, not, List, [], ◌∷◌, ◌++◌, map, length, set, take, T, ltb, eqb, Float}
+use Rattle.std.specs.Prelude.{ℕ, ◌+◌, ◌≡◌, refl, Bool, true, false, not, List, [], ◌∷◌, ◌++◌, map, length, set, take, T, ltb, eqb, Float, if◌then◌else◌}
 use Rattle.std.proofs.Common.{sym, ap, ◌∙◌, subst, append_assoc, append-nil, take-append-drop, get_or-set_same, get_or-set_other, eqb→eq, T_not}
 use Rattle.std.proofs.Math.Dec.{eqb_refl}
 use Rattle.times.specs.Time.{instant}
 use Rattle.rules.specs.declared.BatcherPhase.TheVariants as batching
 use Rattle.rules.specs.declared.Batcher.{Batcher}
 use Rattle.rules.specs.Sizes.{most_jobs}
-use Rattle.rules.specs.Base.{done, if◌then◌else◌}
+use Rattle.rules.specs.Base.{done}
 use Rattle.rules.specs.Table.{batcher, Table, kind_at}
 use Rattle.rules.specs.Simulation.{BatcherState, State, of_processor, of_batcher, of_stopwatch, of_coupled, Simulation, state_at, as_batcher}
 use Rattle.rules.specs.Models.{Fate, Kept, joining, batcher_external, batcher_internal}

@@ -1,6 +1,6 @@
 -- A3 of document 02: what is parked is not stranded. While a message is parked anywhere, no step is refused with 12. In the next step that is not refused, a Coupled that holds a message has its internal event, with its list as it was and without time passing; in it each message that is parked for a component comes to that component, once and in 01's order. And a run that ends with 12 leaves nothing parked. Assumes nothing.
 use Prim.Native.Nat.{ℕ, zero, suc, ◌+◌, ◌-◌, ◌≤◌, ◌<◌}
-use Rattle.std.specs.Prelude.{◌≡◌, ◌⊎◌, Bool, set, T, leb, Float}
+use Rattle.std.specs.Prelude.{◌≡◌, ◌⊎◌, Bool, set, T, leb, Float, if◌then◌else◌}
 use Rattle.std.proofs.Math.Path.{refl, sym, ap, subst}
 use Rattle.std.proofs.Common.{◌∙◌, inl, inr, arith, eq-or-lt_of_le, T_not}
 use Rattle.std.proofs.Math.Bool.{true, false, not}
@@ -17,7 +17,7 @@ use Rattle.rules.specs.declared.Refusal.{Refusal}
 use Rattle.rules.specs.declared.Refusal.TheVariants.{NoMessageRoom, BadTime, Idle, NoOutRoom, BadState}
 use Rattle.rules.specs.declared.Message.{Message}
 use Rattle.rules.specs.Sizes.{is_word, most_parked, most_out}
-use Rattle.rules.specs.Base.{Outcome, refused, done, ◌>>=◌, if◌then◌else◌, each, those, from, at_most}
+use Rattle.rules.specs.Base.{Outcome, refused, done, ◌>>=◌, each, those, from, at_most}
 use Rattle.rules.specs.Table.{Kind, processor, batcher, stopwatch, coupled, Table, Target, row_at, id_at, kind_at, is_parent, is_parentless, parentless, components, inputs, outputs, internals}
 use Rattle.rules.specs.Simulation.{Parked, State, of_processor, of_batcher, of_stopwatch, of_coupled, Simulation, state_at, as_processor, as_batcher, as_stopwatch, as_coupled}
 use Rattle.rules.specs.Models.{Fate, Kept, Passed, processor_external, processor_internal, batcher_external, batcher_internal, stopwatch_external, stopwatch_internal}

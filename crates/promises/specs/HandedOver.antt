@@ -1,6 +1,6 @@
 -- A3 of document 02, of a log: what comes to a Coupled's components, what is newly parked in it, and an internal event in which it hands over what was parked. Definitions only. Assumes nothing.
-use Rattle.std.specs.Prelude.{ℕ, ◌≡◌, Bool, List, [], ◌∷◌, ◌++◌, map, eqb, Float}
-use Rattle.rules.specs.Base.{done, if◌then◌else◌, those}
+use Rattle.std.specs.Prelude.{ℕ, ◌≡◌, Bool, List, [], ◌∷◌, ◌++◌, map, eqb, Float, if◌then◌else◌}
+use Rattle.rules.specs.Base.{done, those}
 use Rattle.rules.specs.Table.{Table, Target, row_at, id_at, is_parent, components, internals}
 use Rattle.rules.specs.Simulation.{Parked, Simulation, state_at, as_coupled}
 use Rattle.rules.specs.Step.{Out, Happening, came, went, waited, World, internal}

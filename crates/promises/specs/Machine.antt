@@ -1,5 +1,5 @@
 -- The batcher's own machine: what any lawful list of its events keeps and says. Then the lift: what a simulation's log says of each batcher row, inside Coupleds too, is such a list. Assumes nothing.
-use Rattle.std.specs.Prelude.{ℕ, zero, suc, ◌+◌, ◌-◌, ◌*◌, ◌/◌, ◌%◌, ◌≤◌, ◌<◌, ◌≡◌, Bool, not, List, [], ◌∷◌, ◌++◌, map, get_or, take, drop, set, T, leb, ltb, eqb, Float}
+use Rattle.std.specs.Prelude.{ℕ, zero, suc, ◌+◌, ◌-◌, ◌*◌, ◌/◌, ◌%◌, ◌≤◌, ◌<◌, ◌≡◌, Bool, not, List, [], ◌∷◌, ◌++◌, map, get_or, take, drop, set, T, leb, ltb, eqb, Float, if◌then◌else◌}
 use Rattle.std.proofs.Math.Path.{refl, sym, ap, subst}
 use Rattle.std.proofs.Common.{◌∙◌, append_assoc, append-nil, add-one, mod-eq_of_lt, length-take, take-append-drop, drop_of_length-le, take_all, get_or-take, get_or-drop, get_or-set_same, get_or-set_other, leb→le, ltb→lt, nltb→le, eqb→eq, T_not}
 use Rattle.std.proofs.Math.Bool.{true, false}
@@ -17,7 +17,7 @@ use Rattle.rules.specs.declared.BatcherPhase.{BatcherPhase}
 use Rattle.rules.specs.declared.BatcherPhase.TheVariants as batching
 use Rattle.rules.specs.declared.Batcher.{Batcher}
 use Rattle.rules.specs.Sizes.{most_jobs, largest_batch}
-use Rattle.rules.specs.Base.{Outcome, done, if◌then◌else◌}
+use Rattle.rules.specs.Base.{Outcome, done}
 use Rattle.rules.specs.Table.{Kind, batcher, Table, kind_at}
 use Rattle.rules.specs.Intake.{kind_rules}
 use Rattle.rules.specs.Simulation.{BatcherState, State, of_batcher, of_coupled, fresh_batcher, state_at}

@@ -2,7 +2,7 @@
 use Prim.Native.Nat.{ℕ, zero, suc, ◌+◌, ◌-◌, ◌≤◌}
 use Rattle.std.proofs.Math.Path.{◌≡◌, refl, ap}
 use Rattle.std.proofs.Common.{sym, subst, ◌∙◌, inl, inr, arith, suc-add, zero-add, length-append, le→leb, T_not}
-use Rattle.std.specs.Prelude.{Bool, true, false, not, T, leb, Float}
+use Rattle.std.specs.Prelude.{Bool, true, false, not, T, leb, Float, if◌then◌else◌}
 use mathlib.Core.List.{List, [], ◌++◌, append_assoc, append-nil}
 use Rattle.std.proofs.Math.ListN.{length}
 use Rattle.std.proofs.Math.Dec.{not_T}
@@ -12,7 +12,7 @@ use Rattle.times.specs.Laws as law
 use Rattle.rules.specs.declared.Refusal.TheVariants.{NoOutRoom}
 use Rattle.rules.specs.declared.Message.{Message}
 use Rattle.rules.specs.Sizes.{is_word}
-use Rattle.rules.specs.Base.{Outcome, refused, done, if◌then◌else◌}
+use Rattle.rules.specs.Base.{Outcome, refused, done}
 use Rattle.rules.specs.Simulation.{Simulation}
 use Rattle.rules.specs.Step.{Happening, one_step}
 use Rattle.rules.specs.Valid.{is_valid}

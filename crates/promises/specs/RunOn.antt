@@ -3,7 +3,7 @@
 use Prim.Native.Nat.{ℕ, zero, suc, ◌+◌, ◌-◌}
 use Rattle.std.proofs.Math.Path.{◌≡◌, refl, ap}
 use Rattle.std.proofs.Common.{sym, subst, ◌∙◌, suc-add, zero-add, length-append}
-use Rattle.std.specs.Prelude.{Bool, leb, Float}
+use Rattle.std.specs.Prelude.{Bool, leb, Float, if◌then◌else◌}
 use Rattle.std.proofs.Math.Bool.{true, false, not}
 use mathlib.Core.List.{List, [], ◌∷◌, ◌++◌, append_assoc}
 use native.Mathlib.Omega.{arith}
@@ -16,7 +16,7 @@ use Rattle.rules.specs.declared.Refusal.{Refusal}
 use Rattle.rules.specs.declared.Refusal.TheVariants.{BadTime, NoOutRoom, BadState}
 use Rattle.rules.specs.declared.Message.{Message}
 use Rattle.rules.specs.Sizes.{is_word}
-use Rattle.rules.specs.Base.{Outcome, refused, done, ◌>>=◌, if◌then◌else◌}
+use Rattle.rules.specs.Base.{Outcome, refused, done, ◌>>=◌}
 use Rattle.rules.specs.Simulation.{Simulation}
 use Rattle.rules.specs.Step.{Happening, one_step}
 use Rattle.rules.specs.Valid.{is_valid}

@@ -1,6 +1,6 @@
 -- What the log of a list of calls tells of one batcher, and what is demanded of it, as one record. Definitions only. Assumes nothing.
 -- Each definition up to the demand is a function of the log, so it has one answer; the log is the one that the rules give (`rules/Step.Happening`), and no rule reads it (`rules/Ghost`).
-use Rattle.std.specs.Prelude.{ℕ, zero, suc, ◌+◌, ◌-◌, ◌/◌, ◌%◌, ◌≤◌, ◌<◌, ◌≡◌, ◌⊎◌, Bool, true, false, List, [], ◌∷◌, ◌++◌, map, length, get_or, take, T, eqb, Float}
+use Rattle.std.specs.Prelude.{ℕ, zero, suc, ◌+◌, ◌-◌, ◌/◌, ◌%◌, ◌≤◌, ◌<◌, ◌≡◌, ◌⊎◌, Bool, true, false, List, [], ◌∷◌, ◌++◌, map, length, get_or, take, T, eqb, Float, if◌then◌else◌}
 use Rattle.std.specs.Float.{binary64}
 use Rattle.std.specs.Float.Ieee.{sub, le}
 use Rattle.times.specs.Time.{instant, is_time}
@@ -10,7 +10,7 @@ use Rattle.rules.specs.declared.BatcherPhase.TheVariants as batching
 use Rattle.rules.specs.declared.Batcher.{Batcher}
 use Rattle.rules.specs.declared.Message.{Message}
 use Rattle.rules.specs.Sizes.{most_jobs, largest_batch}
-use Rattle.rules.specs.Base.{Outcome, refused, done, if◌then◌else◌, those}
+use Rattle.rules.specs.Base.{Outcome, refused, done, those}
 use Rattle.rules.specs.Table.{Table, processor, batcher, id_at, kind_at}
 use Rattle.rules.specs.Simulation.{BatcherState, State, of_batcher, Simulation, fresh_batcher, state_at, as_batcher}
 use Rattle.rules.specs.Models.{Fate, Started, Kept, Dropped, Marked, Asked, Passed, batcher_external, batcher_internal}

@@ -1,4 +1,5 @@
 -- From what the processor's and the batcher's rules answer, and from what is written, to what an event in place says of the rules' outcome. Assumes nothing.
+use Rattle.std.specs.Prelude.{if◌then◌else◌}
 use Prim.Native.Nat.{ℕ, ◌+◌, ◌≤◌}
 use mathlib.Core.Path.{◌≡◌, refl, ap, ◌∙◌}
 use mathlib.Core.Bool.{not}
@@ -15,7 +16,7 @@ use Rattle.rules.specs.declared.BatcherPhase.{BatcherPhase}
 use Rattle.rules.specs.declared.BatcherPhase.TheVariants as batching
 use Rattle.rules.specs.declared.Processor.{Processor}
 use Rattle.rules.specs.declared.Batcher.{Batcher}
-use Rattle.rules.specs.Base.{Outcome, refused, done, ◌>>=◌, if◌then◌else◌, is_empty}
+use Rattle.rules.specs.Base.{Outcome, refused, done, ◌>>=◌, is_empty}
 use Rattle.rules.specs.Table.{processor, batcher}
 use Rattle.rules.specs.Simulation as Simulation
 use Rattle.rules.specs.Models.{Fate, Started, Kept, Dropped, service, joining, processor_external, processor_internal, batcher_external, batcher_internal}

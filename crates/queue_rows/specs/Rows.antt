@@ -1,9 +1,9 @@
 -- A row that holds a queue, by its words: what an event reads of it, and what it leaves there. Definitions only. Assumes nothing.
-use Rattle.std.specs.Prelude.{ℕ, ◌+◌, ◌≤◌, ◌≡◌, Bool, true, false, List, map, length, set, take, drop, T}
+use Rattle.std.specs.Prelude.{ℕ, ◌+◌, ◌≤◌, ◌≡◌, Bool, true, false, List, map, length, set, take, drop, T, if◌then◌else◌}
 use Rattle.std.specs.Float.{binary64}
 use Rattle.std.specs.Float.Ieee.{of_bits, to_bits}
 use Rattle.times.specs.Time.{is_timer}
-use Rattle.rules.specs.Base.{every, if◌then◌else◌}
+use Rattle.rules.specs.Base.{every}
 use Rattle.rules.specs.Sizes.{is_content, most_jobs}
 use Rattle.rules.specs.Step.{out_at}
 use Rattle.words.specs.Queue.{queue_in, unused_clear, moved_up}

@@ -1,4 +1,5 @@
 -- Ids and ports one after the other, and what was read, said in the code's terms. Assumes nothing.
+use Rattle.std.specs.Prelude.{if◌then◌else◌}
 use Prim.Native.Nat.{ℕ, zero, suc, ◌≤◌, ◌<◌}
 use mathlib.Core.Path.{◌≡◌, refl, sym, ap, ◌∙◌}
 use mathlib.Core.Bool.{Bool, true, false, not}
@@ -11,7 +12,6 @@ use Rattle.times.specs.Time.{is_time}
 use Rattle.times.specs.Answers.{time_of_bits, time-says}
 use Rattle.times.specs.declared.TimeOf.TheVariants.{Time}
 use Rattle.rules.specs.Sizes.{is_port}
-use Rattle.rules.specs.Base.{if◌then◌else◌}
 use Rattle.rules.specs.Intake as Intake
 use Rattle.rules.specs.Layout.{cell, connector_width, coupling_width, lent}
 use Rattle.words.specs.declared.Found.{Found}

@@ -1,7 +1,6 @@
 -- Rules looked at one after the other: the reason that is named is one of a rule that is broken, or all are kept. Assumes nothing.
-use Rattle.std.specs.Prelude.{ℕ, zero, suc, ◌+◌, ◌≤◌, ◌<◌, ◌^◌, ◌≡◌, refl, Bool, true, false, List, [], ◌∷◌}
+use Rattle.std.specs.Prelude.{ℕ, zero, suc, ◌+◌, ◌≤◌, ◌<◌, ◌^◌, ◌≡◌, refl, Bool, true, false, List, [], ◌∷◌, if◌then◌else◌}
 use Rattle.std.proofs.Common.{arith, ltb-false}
-use Rattle.rules.specs.Base.{if◌then◌else◌}
 use Rattle.rules.specs.Layout.{cell}
 use Rattle.rules.specs.Ends.{All, nil, ◌&◌}
 use Rattle.reasons.specs.declared.Reason.{Reason}

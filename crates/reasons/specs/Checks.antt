@@ -1,7 +1,7 @@
 -- Rules looked at one after the other, and the reason of the first that is broken. Assumes nothing.
-use Rattle.std.specs.Prelude.{ℕ, Bool, not, List, [], ◌∷◌, map}
+use Rattle.std.specs.Prelude.{ℕ, Bool, not, List, [], ◌∷◌, map, if◌then◌else◌}
 use Rattle.rules.specs.Sizes.{is_port}
-use Rattle.rules.specs.Base.{if◌then◌else◌, from}
+use Rattle.rules.specs.Base.{from}
 use Rattle.rules.specs.Layout.{cell}
 use Rattle.words.specs.declared.Found.{Found}
 use Rattle.words.specs.Search.{first_from}

@@ -1,10 +1,10 @@
 -- A connector and a coupling that intake refuses break the rule that is named. Assumes nothing.
-use Rattle.std.specs.Prelude.{ℕ, ◌/◌, ◌^◌, ◌≡◌, refl, Bool, true, false, ◌&&◌, List, length, T, eqb}
+use Rattle.std.specs.Prelude.{ℕ, ◌/◌, ◌^◌, ◌≡◌, refl, Bool, true, false, ◌&&◌, List, length, T, eqb, if◌then◌else◌}
 use Rattle.std.proofs.Common.{sym, ◌∙◌, subst, arith}
 use Rattle.std.proofs.lemmas.Bool.{false≢true}
 use Rattle.std.proofs.Math.Option.{some}
 use borrow.Author.Tests.{leb-false, ltb-false, eqb-true, eqb-false}
-use Rattle.rules.specs.Base.{if◌then◌else◌, some_of}
+use Rattle.rules.specs.Base.{some_of}
 use Rattle.rules.specs.Table.{Row, is_coupled, is_parent}
 use Rattle.rules.specs.Intake.{is_coupled_id, is_component_of}
 use Rattle.rules.specs.Layout.{cell, model_width, connector_width, coupling_width, coupling_in}

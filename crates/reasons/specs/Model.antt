@@ -1,5 +1,5 @@
 -- A model row that intake refuses breaks the rule that is named: each test that fails breaks its rule, and where all pass the row would be kept. Assumes nothing.
-use Rattle.std.specs.Prelude.{ℕ, zero, suc, ◌/◌, ◌≤◌, ◌<◌, ◌^◌, ◌≡◌, Bool, List, length}
+use Rattle.std.specs.Prelude.{ℕ, zero, suc, ◌/◌, ◌≤◌, ◌<◌, ◌^◌, ◌≡◌, Bool, List, length, if◌then◌else◌}
 use Rattle.std.proofs.Math.Path.{refl, ap, subst}
 use Rattle.std.proofs.Common.{sym, ◌∙◌}
 use Rattle.std.proofs.Math.Bool.{true, false, not}
@@ -12,7 +12,6 @@ use Rattle.std.specs.Float.Ieee.Bits.{is_true}
 use Rattle.std.specs.Float.Ieee.Fits.{and_l}
 use Rattle.rules.specs.declared.Metric.{Metric}
 use Rattle.rules.specs.declared.Metric.TheVariants.{Minimum, Maximum}
-use Rattle.rules.specs.Base.{if◌then◌else◌}
 use Rattle.rules.specs.Table as Table
 use Rattle.rules.specs.Intake.{parent_fits}
 use Rattle.rules.specs.Layout.{cell, is_given, model_width, parent_in, metric_in, kind_in}

@@ -1,6 +1,6 @@
 -- No row of a table that passes intake breaks a rule that a reason names: what `Breaks` says are rules. Assumes nothing.
 use Prim.Native.Nat.{ℕ, zero, suc, ◌+◌, ◌≤◌, ◌<◌, ◌^◌}
-use Rattle.std.specs.Prelude.{◌≡◌, Bool, true, false, ◌&&◌}
+use Rattle.std.specs.Prelude.{◌≡◌, Bool, true, false, ◌&&◌, if◌then◌else◌}
 use Rattle.std.proofs.Common.{sym, ap, ◌∙◌, subst, ne_eqb, leb→le, eqb→eq}
 use mathlib.Core.List.{List, [], ◌∷◌, map}
 use Rattle.std.proofs.Math.Option.{Option, none, some}
@@ -10,7 +10,7 @@ use Rattle.std.proofs.Math.ListN.{length, length-map}
 use Rattle.std.proofs.Math.Dec.{T, leb, ltb, eqb, ltb→lt}
 use Rattle.std.specs.Float.Ieee.Fits.{and_l}
 use Rattle.rules.specs.Sizes.{is_port}
-use Rattle.rules.specs.Base.{if◌then◌else◌, every, from, some_of}
+use Rattle.rules.specs.Base.{every, from, some_of}
 use Rattle.rules.specs.Table as Table
 use Rattle.rules.specs.Table.{Kind, Row, is_coupled, is_parent}
 use Rattle.rules.specs.Intake.{passed, intake, is_coupled_id, is_component_of}

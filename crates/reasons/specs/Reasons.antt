@@ -1,11 +1,10 @@
 -- Why a table is refused. The rules that a row can break are looked at in the order in which a person does: whether it is whole, its kind, its fields, ids and ports, what is the kind's own, whether the id is taken, the parent, the depth. Definitions only. Assumes nothing.
-use Rattle.std.specs.Prelude.{ℕ, ◌/◌, Bool, true, not, List, [], ◌∷◌, length, leb, ltb, eqb}
+use Rattle.std.specs.Prelude.{ℕ, ◌/◌, Bool, true, not, List, [], ◌∷◌, length, leb, ltb, eqb, if◌then◌else◌}
 use Rattle.std.proofs.Math.Option.{Option, none, some}
 use Rattle.std.specs.Float.{binary64}
 use Rattle.std.specs.Float.Ieee.{of_bits}
 use Rattle.times.specs.Time.{is_time}
 use Rattle.rules.specs.Sizes.{most_rows, most_connectors, deepest, largest_batch}
-use Rattle.rules.specs.Base.{if◌then◌else◌}
 use Rattle.rules.specs.Intake.{Verdict, too_large, bad_row, bad_connector, bad_coupling, passed, intake, is_component_of}
 use Rattle.rules.specs.Layout.{cell, parent_in, model_width, connector_width, coupling_width, lent}
 use Rattle.words.specs.declared.Found.{Found}

@@ -1,5 +1,5 @@
 -- The least of all rows' own timers, taken from the front. Assumes nothing.
-use Rattle.std.specs.Prelude.{ℕ, zero, suc, ◌+◌, ◌-◌, ◌≤◌, ◌<◌, ◌≡◌, refl, Bool, true, false, List, map, length, T, Float}
+use Rattle.std.specs.Prelude.{ℕ, zero, suc, ◌+◌, ◌-◌, ◌≤◌, ◌<◌, ◌≡◌, refl, Bool, true, false, List, map, length, T, Float, if◌then◌else◌}
 use Rattle.std.proofs.Common.{sym, ap, ◌∙◌, arith}
 use Rattle.std.proofs.lemmas.Simd.{map-map}
 use Rattle.std.proofs.Math.Nat.{sub-zero}
@@ -7,7 +7,7 @@ use Rattle.std.specs.Float.{binary64}
 use Rattle.std.specs.Float.Ieee.{of_bits, lt}
 use Rattle.times.specs.Time.{never, is_timer, least_of}
 use Rattle.times.specs.Laws as law
-use Rattle.rules.specs.Base.{if◌then◌else◌, from}
+use Rattle.rules.specs.Base.{from}
 use Rattle.rules.specs.Table.{Table, kind_at}
 use Rattle.rules.specs.Step.{least, least_timer}
 use Rattle.rules.specs.Least.{own_timer, least-is, fitted-fits}

@@ -1,10 +1,9 @@
 -- The words that the rules are written in: an outcome, a choice, a sweep over a list. Definitions only. Assumes nothing.
-use Rattle.std.specs.Prelude.{ℕ, zero, suc, Bool, true, false, List, [], ◌∷◌, length, leb}
+use Rattle.std.specs.Prelude.{ℕ, zero, suc, Bool, true, false, List, [], ◌∷◌, length, leb, if◌then◌else◌}
 use Rattle.std.proofs.Math.Option.{Option, none, some}
 use Rattle.rules.specs.declared.Refusal.{Refusal}
 
 infixl 5 ◌>>=◌
-infixr 4 if◌then◌else◌
 -- what was done, or a refusal, which holds nothing else: "A refused call returns its number and changes neither the simulation .. nor any lent buffer."
 pub data Outcome (A : Type 0) : Type 0 where
   refused : Refusal → Outcome A
@@ -14,10 +13,6 @@ pub data Outcome (A : Type 0) : Type 0 where
 abbrev pub ◌>>=◌ : {A B : Type 0} → Outcome A → (A → Outcome B) → Outcome B
 refused r >>= next = refused r
 done a >>= next = next a
-
-abbrev pub if◌then◌else◌ : {A : Type 0} → Bool → A → A → A
-if◌then◌else◌ true x y = x
-if◌then◌else◌ false x y = y
 
 -- `visit` each element in order
 abbrev pub each : {A S : Type 0} → (A → S → Outcome S) → List A → S → Outcome S

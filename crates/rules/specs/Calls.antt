@@ -1,5 +1,5 @@
 -- The calls on a simulation: post, put, inject_input, step, step_n, step_until, reset and its two halves, messages, clock, status. Definitions only. Assumes nothing.
-use Rattle.std.specs.Prelude.{ℕ, zero, suc, ◌-◌, Bool, not, List, [], ◌∷◌, ◌++◌, length, leb, eqb, Float}
+use Rattle.std.specs.Prelude.{ℕ, zero, suc, ◌-◌, Bool, not, List, [], ◌∷◌, ◌++◌, length, leb, eqb, Float, if◌then◌else◌}
 use Rattle.std.proofs.Math.Option.{Option}
 use Rattle.std.specs.Float.Ieee.{lt, fits}
 use Rattle.std.specs.Float.{binary64}
@@ -10,7 +10,7 @@ use Rattle.rules.specs.declared.ProcessorPhase.{ProcessorPhase}
 use Rattle.rules.specs.declared.BatcherPhase.{BatcherPhase}
 use Rattle.rules.specs.declared.Message.{Message}
 use Rattle.rules.specs.Sizes.{is_id, is_port, is_content, is_word, is_allowance, most_active}
-use Rattle.rules.specs.Base.{Outcome, refused, done, ◌>>=◌, if◌then◌else◌, those, every, at_most}
+use Rattle.rules.specs.Base.{Outcome, refused, done, ◌>>=◌, those, every, at_most}
 use Rattle.rules.specs.Table.{id_at, parentless}
 use Rattle.rules.specs.Intake.{Posted, intake, taken_in}
 use Rattle.rules.specs.Simulation.{State, of_processor, of_batcher, of_stopwatch, of_coupled, Simulation, fresh_all, begun, empty_table, state_at}

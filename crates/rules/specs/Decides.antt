@@ -1,5 +1,5 @@
 -- Each definition that reads like a test decides what its sentence of 01 says: `Decides (test ..) P` is the equivalence of `T (test ..)` with the proposition P. Assumes nothing.
-use Rattle.std.specs.Prelude.{ℕ, zero, suc, ◌+◌, ◌≤◌, ◌<◌, ◌^◌, ◌/◌, ◌%◌, ◌≡◌, ◌↔◌, ◌≢◌, ◌⊎◌, Bool, not, ◌&&◌, length, get_or, take, T, leb, ltb, eqb, Float}
+use Rattle.std.specs.Prelude.{ℕ, zero, suc, ◌+◌, ◌≤◌, ◌<◌, ◌^◌, ◌/◌, ◌%◌, ◌≡◌, ◌↔◌, ◌≢◌, ◌⊎◌, Bool, not, ◌&&◌, length, get_or, take, T, leb, ltb, eqb, Float, if◌then◌else◌}
 use Rattle.std.proofs.Common.{zero-le, suc-le-suc, sym, ap, ◌∙◌, inl, inr, le_of_suc-le-suc, not-suc-le-zero, eq-or-lt_of_le, arith, leb→le, le→leb, ltb→lt, lt→ltb, eqb→eq, T_not}
 use Rattle.std.proofs.Math.Path.{refl, subst}
 use Rattle.std.proofs.Math.Bool.{true, false}
@@ -18,7 +18,7 @@ use Rattle.rules.specs.declared.Batcher.{Batcher}
 use Rattle.rules.specs.declared.Stopwatch.{Stopwatch}
 use Rattle.rules.specs.declared.Message.{Message}
 use Rattle.rules.specs.Sizes.{is_id, is_port, is_content, is_word, is_allowance}
-use Rattle.rules.specs.Base.{if◌then◌else◌, those, chosen, every, some_of, hold, from, is_empty}
+use Rattle.rules.specs.Base.{those, chosen, every, some_of, hold, from, is_empty}
 use Rattle.rules.specs.Table.{Kind, processor, batcher, stopwatch, coupled, Row, Connector, Coupling, external_input, external_output, internal_coupling, Target, Table, no_row, row_at, is_coupled, is_parent, is_parentless, parentless, components, connected, input_of, output_of, internal_of, inputs, outputs, internals}
 use Rattle.rules.specs.Intake.{Posted, size_rules, kind_rules, is_new, parent_fits, depth_of, depth_fits, row_rules, connector_rules, is_coupled_id, is_component_of, coupling_rules, Verdict, too_large, bad_row, bad_connector, bad_coupling, passed, first_bad_row, first_bad, whole, intake, handed, is_passed, passes_intake}
 use Rattle.rules.specs.Layout.{cell, is_given}

@@ -1,5 +1,5 @@
 -- What intake tells of a table that passes it: rows, ids, parents, connectors, couplings, sizes; that what it passes, passes again; that five levels do for every event; and the induction from the parentless rows down. Assumes nothing.
-use Rattle.std.specs.Prelude.{ℕ, zero, suc, ◌+◌, ◌≤◌, ◌<◌, ◌≡◌, refl, ◌⊎◌, Bool, true, false, not, ◌&&◌, List, [], ◌∷◌, map, length, get_or, T, eqb}
+use Rattle.std.specs.Prelude.{ℕ, zero, suc, ◌+◌, ◌≤◌, ◌<◌, ◌≡◌, refl, ◌⊎◌, Bool, true, false, not, ◌&&◌, List, [], ◌∷◌, map, length, get_or, T, eqb, if◌then◌else◌}
 use Rattle.std.proofs.Common.{sym, ap, ◌∙◌, subst, inl, inr, arith, leb→le, eqb→eq, T_not}
 use Rattle.std.proofs.Math.Option.{Option, none, some}
 use Rattle.std.proofs.lemmas.List.{length-map}
@@ -8,7 +8,7 @@ use Rattle.std.specs.Float.Ieee.Fits.{and_l}
 use Rattle.rules.specs.declared.Refusal.{Refusal}
 use Rattle.rules.specs.declared.Refusal.TheVariants.{TooLarge, BadRow, BadCoupling}
 use Rattle.rules.specs.Sizes.{is_id, most_rows, most_connectors, most_couplings, deepest}
-use Rattle.rules.specs.Base.{if◌then◌else◌, from, some_of, hold}
+use Rattle.rules.specs.Base.{from, some_of, hold}
 use Rattle.rules.specs.Table.{Kind, coupled, Row, Connector, Coupling, Table, no_row, row_at, id_at, kind_at, is_coupled, is_parent, is_parentless, parentless, components}
 use Rattle.rules.specs.Intake.{Posted, size_rules, kind_rules, parent_fits, depth_of, depth_fits, row_rules, connector_rules, coupling_rules, Verdict, too_large, bad_row, bad_connector, bad_coupling, passed, first_bad_row, first_bad, whole, intake, taken_in, handed, is_passed, passes_intake}
 use Rattle.rules.specs.Step.{levels}

@@ -1,9 +1,9 @@
 -- The tools of the proofs: tests taken apart, what holds of every element, and what holds of an outcome. `Ends B Q o` says that a refusal in o keeps B, and that what was done keeps Q; one law for each word of `Base`. Assumes nothing.
-use Rattle.std.specs.Prelude.{ℕ, ◌≤◌, ◌≡◌, refl, ◌⊎◌, Bool, true, false, not, List, [], ◌∷◌, ◌++◌, map, length, T, leb}
+use Rattle.std.specs.Prelude.{ℕ, ◌≤◌, ◌≡◌, refl, ◌⊎◌, Bool, true, false, not, List, [], ◌∷◌, ◌++◌, map, length, T, leb, if◌then◌else◌}
 use Rattle.std.proofs.Common.{subst, inl, inr, arith, leb→le}
 use Rattle.std.proofs.Math.Option.{Option, none, some}
 use Rattle.rules.specs.declared.Refusal.{Refusal}
-use Rattle.rules.specs.Base.{Outcome, refused, done, ◌>>=◌, if◌then◌else◌, each, those, chosen, every, hold, at_most}
+use Rattle.rules.specs.Base.{Outcome, refused, done, ◌>>=◌, each, those, chosen, every, hold, at_most}
 
 -- ---- tests: both, one or the other, and not
 pub if-both : (a b : Bool) → T (if a then b else false) → T a × T b

@@ -1,6 +1,6 @@
 -- The refusal table's "Given exactly when", for every input: `Refuses o lines` says that o gives each refusal exactly when its line says so, and no refusal without a line. Assumes nothing.
 use Prim.Native.Nat.{ℕ, zero, suc, ◌+◌, ◌≤◌, ◌<◌}
-use Rattle.std.specs.Prelude.{◌≡◌, ◌↔◌, ◌⊎◌, Bool, true, false, not, ◌&&◌, cond, length, get_or, T, leb, ltb, Float}
+use Rattle.std.specs.Prelude.{◌≡◌, ◌↔◌, ◌⊎◌, Bool, true, false, not, ◌&&◌, cond, length, get_or, T, leb, ltb, Float, if◌then◌else◌}
 use Rattle.std.proofs.Math.Path.{refl, sym}
 use Rattle.std.proofs.Common.{ap, ◌∙◌, subst, inl, inr}
 use mathlib.Core.List.{List, [], ◌∷◌, ◌++◌, map}
@@ -23,7 +23,7 @@ use Rattle.rules.specs.declared.Stopwatch.{Stopwatch}
 use Rattle.rules.specs.declared.Message.{Message}
 use Rattle.rules.specs.Names.{number}
 use Rattle.rules.specs.Sizes.{most_jobs, most_parked, most_out, most_active}
-use Rattle.rules.specs.Base.{Outcome, refused, done, ◌>>=◌, if◌then◌else◌, each, those, some_of, is_empty, at_most}
+use Rattle.rules.specs.Base.{Outcome, refused, done, ◌>>=◌, each, those, some_of, is_empty, at_most}
 use Rattle.rules.specs.Table.{Kind, processor, batcher, stopwatch, coupled, Table, Target, row_at, id_at, kind_at, components, inputs, outputs, internals, parentless, connected}
 use Rattle.rules.specs.Intake.{Posted, Verdict, too_large, bad_row, bad_connector, bad_coupling, passed, intake, taken_in}
 use Rattle.rules.specs.Simulation.{ProcessorState, BatcherState, Marks, StopwatchState, Parked, of_coupled, of_processor, of_batcher, of_stopwatch, Simulation, begun, state_at, as_processor, as_batcher, as_stopwatch, as_coupled}

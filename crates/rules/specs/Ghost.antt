@@ -1,12 +1,12 @@
 -- No rule reads the log: each event, and each part of a step, after any log L does what it does after none, and writes the same behind L. Assumes nothing.
 use Prim.Native.Nat.{ℕ, zero, suc}
-use Rattle.std.specs.Prelude.{◌≡◌, Bool, true, false, List, [], ◌∷◌, ◌++◌, map, eqb, Float}
+use Rattle.std.specs.Prelude.{◌≡◌, Bool, true, false, List, [], ◌∷◌, ◌++◌, map, eqb, Float, if◌then◌else◌}
 use Rattle.std.proofs.Math.Path.{refl}
 use Rattle.std.proofs.Common.{ap, ◌∙◌, append_assoc}
 use Rattle.rules.specs.declared.Refusal.TheVariants.{NoMessageRoom}
 use Rattle.rules.specs.declared.Message.{Message}
 use Rattle.rules.specs.Sizes.{most_parked, most_out}
-use Rattle.rules.specs.Base.{Outcome, refused, done, ◌>>=◌, if◌then◌else◌, each, those, at_most}
+use Rattle.rules.specs.Base.{Outcome, refused, done, ◌>>=◌, each, those, at_most}
 use Rattle.rules.specs.Table.{Kind, processor, batcher, stopwatch, coupled, Table, Target, id_at, kind_at, parentless, components, inputs, outputs, internals}
 use Rattle.rules.specs.Simulation.{Parked, of_coupled, state_at, as_processor, as_batcher, as_stopwatch, as_coupled}
 use Rattle.rules.specs.Models.{processor_external, processor_internal, batcher_external, batcher_internal, stopwatch_external, stopwatch_internal}

@@ -1,10 +1,10 @@
 -- Table intake: refusals 1 to 3, with the row. Definitions only. Assumes nothing.
-use Rattle.std.specs.Prelude.{ℕ, suc, ◌+◌, Bool, true, false, not, ◌&&◌, List, [], ◌∷◌, map, length, leb, eqb}
+use Rattle.std.specs.Prelude.{ℕ, suc, ◌+◌, Bool, true, false, not, ◌&&◌, List, [], ◌∷◌, map, length, leb, eqb, if◌then◌else◌}
 use Rattle.std.proofs.Math.Option.{Option, none, some}
 use Rattle.times.specs.Time.{is_time}
 use Rattle.rules.specs.declared.Refusal.TheVariants.{TooLarge, BadRow, BadCoupling}
 use Rattle.rules.specs.Sizes.{is_id, is_port, is_word, most_rows, most_connectors, most_couplings, deepest, largest_batch}
-use Rattle.rules.specs.Base.{Outcome, refused, done, if◌then◌else◌, chosen, some_of, hold}
+use Rattle.rules.specs.Base.{Outcome, refused, done, chosen, some_of, hold}
 use Rattle.rules.specs.Table.{Kind, processor, batcher, stopwatch, coupled, Row, Connector, Coupling, external_input, external_output, internal_coupling, Table, is_coupled, is_parent}
 
 -- a table as it is handed in: a row that breaks by itself is `none` ("cut short", "a field beyond its width", "its kind is none of the four, its metric neither of the two": docs/LAYOUT.md and Layout.antt)

@@ -1,5 +1,5 @@
 -- Each model's events keep what refusal 20 asks of its state, put out contents only, and leave the place in the service list a word. Assumes nothing.
-use Rattle.std.specs.Prelude.{ℕ, zero, suc, ◌+◌, ◌*◌, ◌≤◌, ◌<◌, ◌^◌, ◌≡◌, refl, Bool, true, false, not, ◌&&◌, get_or, leb, ltb, eqb, Float}
+use Rattle.std.specs.Prelude.{ℕ, zero, suc, ◌+◌, ◌*◌, ◌≤◌, ◌<◌, ◌^◌, ◌≡◌, refl, Bool, true, false, not, ◌&&◌, get_or, leb, ltb, eqb, Float, if◌then◌else◌}
 use Rattle.std.proofs.Common.{sym, ap, ◌∙◌, subst, length-append, eqb→eq}
 use mathlib.Core.List.{List, [], ◌∷◌, ◌++◌, map}
 use Rattle.std.proofs.Math.Option.{Option, none, some}
@@ -22,7 +22,7 @@ use Rattle.rules.specs.declared.Processor.{Processor}
 use Rattle.rules.specs.declared.Batcher.{Batcher}
 use Rattle.rules.specs.declared.Stopwatch.{Stopwatch}
 use Rattle.rules.specs.Sizes.{is_content, is_word, most_jobs}
-use Rattle.rules.specs.Base.{Outcome, if◌then◌else◌, every, some_of, hold, is_empty}
+use Rattle.rules.specs.Base.{Outcome, every, some_of, hold, is_empty}
 use Rattle.rules.specs.Simulation.{ProcessorState, BatcherState, StopwatchState, Marks}
 use Rattle.rules.specs.Models.{Started, Kept, Dropped, Marked, Asked, keep, service, processor_external, processor_internal_in, processor_internal, joining, batcher_external, batcher_internal, is_named, marked, marked_state, started, stopped, stopwatch_external, stopwatch_internal, Duration, durations, between, better, best_of, fetched, asked}
 use Rattle.rules.specs.Valid.{is_active, processor_rules, batcher_rules, marks_rules, member, differ, names, stopwatch_rules}

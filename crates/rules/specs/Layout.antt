@@ -1,5 +1,5 @@
 -- docs/LAYOUT.md as definitions: from the lent words of a table to its rows, and from messages to the rows of an output. Definitions only. Assumes nothing.
-use Rattle.std.specs.Prelude.{ℕ, zero, suc, ◌*◌, ◌/◌, ◌%◌, Bool, not, List, [], ◌∷◌, ◌++◌, map, length, get_or, take, drop, ltb, eqb}
+use Rattle.std.specs.Prelude.{ℕ, zero, suc, ◌*◌, ◌/◌, ◌%◌, Bool, not, List, [], ◌∷◌, ◌++◌, map, length, get_or, take, drop, ltb, eqb, if◌then◌else◌}
 use Rattle.std.proofs.Math.Option.{Option, none, some}
 use Rattle.std.specs.Float.{binary64}
 use Rattle.std.specs.Float.Ieee.{of_bits, to_bits}
@@ -7,7 +7,7 @@ use Rattle.rules.specs.declared.Metric.{Metric}
 use Rattle.rules.specs.declared.Metric.TheVariants.{Minimum, Maximum}
 use Rattle.rules.specs.declared.Message.{Message}
 use Rattle.rules.specs.Sizes.{is_id, is_port, omitted_capacity}
-use Rattle.rules.specs.Base.{if◌then◌else◌, those, every, hold, is_empty}
+use Rattle.rules.specs.Base.{those, every, hold, is_empty}
 use Rattle.rules.specs.Table.{Kind, processor, batcher, stopwatch, coupled, Row, Connector, Coupling, external_input, external_output, internal_coupling}
 use Rattle.rules.specs.Intake.{Posted}
 

@@ -1,13 +1,13 @@
 -- "the least timer": for a table that passes intake and states that fit, the least of the parentless models' timers is the least of all rows' own timers. So it is a timer, and at most each row's own. Assumes nothing.
 use Prim.Native.Nat.{ℕ, zero, suc, ◌+◌, ◌≤◌, ◌<◌}
-use Rattle.std.specs.Prelude.{◌≡◌, refl, ◌⊎◌, Bool, true, false, List, [], ◌∷◌, map, length, get_or, Float}
+use Rattle.std.specs.Prelude.{◌≡◌, refl, ◌⊎◌, Bool, true, false, List, [], ◌∷◌, map, length, get_or, Float, if◌then◌else◌}
 use Rattle.std.proofs.Common.{sym, ◌∙◌, subst, inl, inr, arith, eq-or-lt_of_le}
 use Rattle.std.proofs.Math.Path.{ap}
 use Rattle.std.proofs.Math.Dec.{T}
 use Rattle.std.specs.Float.Ieee.{le, eq}
 use Rattle.times.specs.Time.{instant, never, is_timer, least_of}
 use Rattle.times.specs.Laws as law
-use Rattle.rules.specs.Base.{if◌then◌else◌, those, from}
+use Rattle.rules.specs.Base.{those, from}
 use Rattle.rules.specs.Table.{Kind, coupled, Row, Table, no_row, row_at, id_at, kind_at, is_parent, is_parentless, parentless, components}
 use Rattle.rules.specs.Intake.{passes_intake}
 use Rattle.rules.specs.Simulation.{Parked, State, of_processor, of_batcher, of_stopwatch, of_coupled, state_at}

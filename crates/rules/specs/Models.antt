@@ -1,5 +1,5 @@
 -- The Processor, the Batcher and the Stopwatch ("The four models" of 01). "On an event, each hands its next state back to the caller." Definitions only. Assumes nothing.
-use Rattle.std.specs.Prelude.{ℕ, ◌+◌, ◌*◌, Bool, not, List, [], ◌∷◌, ◌++◌, map, pos, length, get_or, take, drop, leb, ltb, eqb, Float}
+use Rattle.std.specs.Prelude.{ℕ, ◌+◌, ◌*◌, Bool, not, List, [], ◌∷◌, ◌++◌, map, pos, length, get_or, take, drop, leb, ltb, eqb, Float, if◌then◌else◌}
 use Rattle.std.proofs.Math.Option.{Option, none, some}
 use Rattle.std.specs.Float.{binary64}
 use Rattle.std.specs.Float.Ieee.{add, sub, div, of_int, lt}
@@ -17,7 +17,7 @@ use Rattle.rules.specs.declared.Processor.{Processor}
 use Rattle.rules.specs.declared.Batcher.{Batcher}
 use Rattle.rules.specs.declared.Stopwatch.{Stopwatch}
 use Rattle.rules.specs.Sizes.{most_jobs}
-use Rattle.rules.specs.Base.{Outcome, refused, done, ◌>>=◌, if◌then◌else◌, chosen, some_of, is_empty}
+use Rattle.rules.specs.Base.{Outcome, refused, done, ◌>>=◌, chosen, some_of, is_empty}
 use Rattle.rules.specs.Simulation.{ProcessorState, BatcherState, StopwatchState, Marks}
 
 -- what became of what came: a processor started it, kept it behind others or dropped it; a batcher kept it; a stopwatch marked it or was asked; a Coupled passed it on

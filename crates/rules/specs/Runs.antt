@@ -1,6 +1,6 @@
 -- What each step keeps, every call keeps: step, step_n, step_until, inject_input, the resets, and a list of calls. And from a valid simulation every call leaves a valid one, and none is refused with 20. Assumes nothing.
 use Prim.Native.Nat.{ℕ, zero, suc, ◌+◌, ◌-◌, ◌≤◌}
-use Rattle.std.specs.Prelude.{◌≡◌, refl, Bool, leb, ltb, eqb, Float}
+use Rattle.std.specs.Prelude.{◌≡◌, refl, Bool, leb, ltb, eqb, Float, if◌then◌else◌}
 use Rattle.std.proofs.Common.{sym, subst, arith, leb→le, le→leb, T_not}
 use Rattle.std.proofs.Math.Bool.{true, false, not}
 use mathlib.Core.List.{List, [], ◌∷◌, ◌++◌, append_assoc, append-nil}
@@ -17,7 +17,7 @@ use Rattle.rules.specs.declared.BatcherPhase.TheVariants as batching
 use Rattle.rules.specs.declared.Batcher.{Batcher}
 use Rattle.rules.specs.declared.Message.{Message}
 use Rattle.rules.specs.Sizes.{is_word, most_active}
-use Rattle.rules.specs.Base.{Outcome, if◌then◌else◌, those, hold}
+use Rattle.rules.specs.Base.{Outcome, those, hold}
 use Rattle.rules.specs.Table.{Kind, processor, batcher, stopwatch, coupled, Row, Table, no_row, id_at, kind_at, parentless}
 use Rattle.rules.specs.Intake.{Posted, intake, taken_in, passes_intake}
 use Rattle.rules.specs.Simulation.{BatcherState, State, Simulation, fresh, fresh_all, begun, empty_table, state_at}

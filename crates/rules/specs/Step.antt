@@ -1,12 +1,12 @@
 -- Events of models, Coupleds among them, and the step ("Coupled (001)" and "The step (000)" of 01). Definitions only. Assumes nothing.
-use Rattle.std.specs.Prelude.{ℕ, zero, suc, Bool, List, [], ◌∷◌, ◌++◌, map, set, eqb, Float}
+use Rattle.std.specs.Prelude.{ℕ, zero, suc, Bool, List, [], ◌∷◌, ◌++◌, map, set, eqb, Float, if◌then◌else◌}
 use Rattle.std.specs.Float.{binary64}
 use Rattle.std.specs.Float.Ieee.{add, sub, eq}
 use Rattle.times.specs.Time.{instant, never, is_never, is_time, least_of}
 use Rattle.rules.specs.declared.Refusal.TheVariants.{NoMessageRoom, ClockOverflow, Idle, BadState}
 use Rattle.rules.specs.declared.Message.{Message}
 use Rattle.rules.specs.Sizes.{most_active, most_parked, most_out, deepest}
-use Rattle.rules.specs.Base.{Outcome, refused, done, ◌>>=◌, if◌then◌else◌, each, those, at_most}
+use Rattle.rules.specs.Base.{Outcome, refused, done, ◌>>=◌, each, those, at_most}
 use Rattle.rules.specs.Table.{Kind, processor, batcher, stopwatch, coupled, Table, Target, Connector, id_at, kind_at, parentless, components, connected, inputs, outputs, internals}
 use Rattle.rules.specs.Simulation.{Parked, State, of_processor, of_batcher, of_stopwatch, of_coupled, Simulation, state_at, as_processor, as_batcher, as_stopwatch, as_coupled}
 use Rattle.rules.specs.Models.{Fate, Kept, Passed, processor_external, processor_internal, batcher_external, batcher_internal, stopwatch_external, stopwatch_internal}

@@ -1,10 +1,10 @@
 -- The table: model rows, connectors, couplings, and looking things up in it. Definitions only. Assumes nothing.
-use Rattle.std.specs.Prelude.{ℕ, Bool, true, false, ◌&&◌, List, length, get_or, eqb}
+use Rattle.std.specs.Prelude.{ℕ, Bool, true, false, ◌&&◌, List, length, get_or, eqb, if◌then◌else◌}
 use Rattle.std.proofs.Math.Option.{Option, none, some}
 use Rattle.rules.specs.declared.Processor.{Processor}
 use Rattle.rules.specs.declared.Batcher.{Batcher}
 use Rattle.rules.specs.declared.Stopwatch.{Stopwatch}
-use Rattle.rules.specs.Base.{those, chosen, from, if◌then◌else◌}
+use Rattle.rules.specs.Base.{those, chosen, from}
 
 -- "Processor, Batcher, Stopwatch, Coupled", with what the row says of it
 pub data Kind : Type 0 where

@@ -1,6 +1,6 @@
 -- What refusal 20 asks of a simulation, and of a model's state, row and clock, sentence by sentence. Definitions only. Assumes nothing.
 -- "phases are named ones" and "is cut short" are of the layout: here a phase is a named one, and a list has no end to be cut from.
-use Rattle.std.specs.Prelude.{ℕ, Bool, true, false, not, ◌&&◌, List, [], ◌∷◌, map, length, leb, eqb, Float}
+use Rattle.std.specs.Prelude.{ℕ, Bool, true, false, not, ◌&&◌, List, [], ◌∷◌, map, length, leb, eqb, Float, if◌then◌else◌}
 use Rattle.std.proofs.Math.Option.{Option, none, some}
 use Rattle.times.specs.Time.{is_time, is_timer}
 use Rattle.rules.specs.declared.Refusal.TheVariants.{BadState}
@@ -11,7 +11,7 @@ use Rattle.rules.specs.declared.Batcher.{Batcher}
 use Rattle.rules.specs.declared.Stopwatch.{Stopwatch}
 use Rattle.rules.specs.declared.Message.{Message}
 use Rattle.rules.specs.Sizes.{is_id, is_port, is_content, is_word, most_jobs, most_parked, most_active}
-use Rattle.rules.specs.Base.{Outcome, refused, done, if◌then◌else◌, every, some_of, hold, is_empty}
+use Rattle.rules.specs.Base.{Outcome, refused, done, every, some_of, hold, is_empty}
 use Rattle.rules.specs.Table.{Kind, processor, batcher, stopwatch, coupled, Row}
 use Rattle.rules.specs.Intake.{kind_rules, passes_intake}
 use Rattle.rules.specs.Simulation.{ProcessorState, BatcherState, Marks, StopwatchState, Parked, State, of_processor, of_batcher, of_stopwatch, of_coupled, Simulation, as_processor, as_batcher, as_stopwatch, as_coupled}

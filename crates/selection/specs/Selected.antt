@@ -1,8 +1,8 @@
 -- In a table that passes intake, the rules' lists are the places that a search finds, in order. Assumes nothing.
-use Rattle.std.specs.Prelude.{ℕ, zero, suc, ◌+◌, ◌-◌, ◌≤◌, ◌<◌, ◌≡◌, refl, Bool, true, false, ◌&&◌, List, [], ◌∷◌, map, length, eqb}
+use Rattle.std.specs.Prelude.{ℕ, zero, suc, ◌+◌, ◌-◌, ◌≤◌, ◌<◌, ◌≡◌, refl, Bool, true, false, ◌&&◌, List, [], ◌∷◌, map, length, eqb, if◌then◌else◌}
 use Rattle.std.proofs.Common.{ap, ◌∙◌, arith, add-one}
 use Rattle.std.proofs.Math.Option.{Option, none, some}
-use Rattle.rules.specs.Base.{Outcome, done, ◌>>=◌, if◌then◌else◌, each, those, chosen, hold, from}
+use Rattle.rules.specs.Base.{Outcome, done, ◌>>=◌, each, those, chosen, hold, from}
 use Rattle.rules.specs.Sizes.{is_id}
 use Rattle.rules.specs.Table.{Table, Target, Connector, Coupling, input_of, output_of, internal_of, connected, inputs, outputs, internals, components, parentless, id_at, is_parent, is_parentless}
 use Rattle.rules.specs.Intake.{intake, passed}

@@ -1,7 +1,6 @@
 -- Which rows of a lent table match, by the layout and the rules' own tests, and what a search for them answers and looks at. Definitions only. Assumes nothing.
-use Rattle.std.specs.Prelude.{ℕ, zero, suc, ◌+◌, ◌-◌, ◌/◌, ◌≡◌, Bool, true, false, ◌&&◌, List, [], ◌∷◌, length, eqb}
+use Rattle.std.specs.Prelude.{ℕ, zero, suc, ◌+◌, ◌-◌, ◌/◌, ◌≡◌, Bool, true, false, ◌&&◌, List, [], ◌∷◌, length, eqb, if◌then◌else◌}
 use Rattle.std.proofs.Math.Option.{Option, none, some}
-use Rattle.rules.specs.Base.{if◌then◌else◌}
 use Rattle.rules.specs.Table.{Connector, Coupling, input_of, output_of, internal_of, is_parent, is_parentless}
 use Rattle.rules.specs.Layout.{cell, model_width, connector_width, coupling_width, parent_in, coupling_in}
 use Rattle.table.specs.Readers.{row_of, id_in}

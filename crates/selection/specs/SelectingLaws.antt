@@ -1,9 +1,8 @@
 -- The tests of the words that the searches make are the rules' own. Assumes nothing.
-use Rattle.std.specs.Prelude.{ℕ, zero, suc, ◌+◌, ◌-◌, ◌*◌, ◌/◌, ◌%◌, ◌≤◌, ◌<◌, ◌≡◌, refl, Bool, true, false, ◌&&◌, not, List, length, get_or, take, drop, eqb}
+use Rattle.std.specs.Prelude.{ℕ, zero, suc, ◌+◌, ◌-◌, ◌*◌, ◌/◌, ◌%◌, ◌≤◌, ◌<◌, ◌≡◌, refl, Bool, true, false, ◌&&◌, not, List, length, get_or, take, drop, eqb, if◌then◌else◌}
 use Rattle.std.proofs.Common.{sym, ap, ◌∙◌, arith, add_assoc, div-one, div-lt_iff_lt-mul, div-mul-le_self, mod-lt, mul-le-mul_right, eqb-true, drop_of_length-le, lit<}
 use Rattle.std.proofs.Math.Option.{Option, none, some}
 use Rattle.std.proofs.Math.Seq.{take-nil}
-use Rattle.rules.specs.Base.{if◌then◌else◌}
 use Rattle.rules.specs.Table.{Coupling, external_input, external_output, internal_coupling, input_of, output_of, internal_of, is_parent, is_parentless}
 use Rattle.rules.specs.Layout.{cell, model_width, coupling_width, coupling_in, is_given}
 use Rattle.words.specs.declared.Cell.{Cell}

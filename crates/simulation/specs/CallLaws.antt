@@ -1,5 +1,5 @@
 -- What each call says of a buffer that holds no simulation, and of one that does. Assumes nothing.
-use Rattle.std.specs.Prelude.{ℕ, ◌≤◌, ◌<◌, ◌≡◌, true, false, List, [], ◌∷◌, ◌++◌, length, T, Float}
+use Rattle.std.specs.Prelude.{ℕ, ◌≤◌, ◌<◌, ◌≡◌, true, false, List, [], ◌∷◌, ◌++◌, length, T, Float, if◌then◌else◌}
 use Rattle.std.proofs.Math.Path.{refl}
 use Rattle.std.proofs.Common.{sym, ap, subst, ◌∙◌, arith}
 use Rattle.std.proofs.Math.ListN.{length-append}
@@ -7,7 +7,7 @@ use Rattle.times.specs.Time.{is_time}
 use Rattle.rules.specs.declared.Message.{Message}
 use Rattle.rules.specs.declared.Refusal.{Refusal}
 use Rattle.rules.specs.declared.Refusal.TheVariants.{BadState, BadTime, NoMessageRoom, NoOutRoom}
-use Rattle.rules.specs.Base.{Outcome, refused, done, if◌then◌else◌}
+use Rattle.rules.specs.Base.{Outcome, refused, done}
 use Rattle.rules.specs.Intake.{Verdict, intake, taken_in}
 use Rattle.rules.specs.Layout.{lent}
 use Rattle.rules.specs.Decides.{at-most, is_true, is_false}

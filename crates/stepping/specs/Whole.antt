@@ -1,5 +1,5 @@
 -- A step in place, its parts put together: with messages active, and without. Assumes nothing.
-use Rattle.std.specs.Prelude.{ℕ, zero, suc, ◌+◌, ◌≤◌, ◌<◌, ◌≡◌, true, false, length, set, T, Float}
+use Rattle.std.specs.Prelude.{ℕ, zero, suc, ◌+◌, ◌≤◌, ◌<◌, ◌≡◌, true, false, length, set, T, Float, if◌then◌else◌}
 use Rattle.std.proofs.Math.Path.{refl, ap}
 use Rattle.std.proofs.Common.{sym, subst, ◌∙◌, inl, inr, arith, length-set, get_or-set_same, get_or-set_other}
 use Rattle.std.proofs.lemmas.Bool.{false≢true}
@@ -13,7 +13,7 @@ use Rattle.times.specs.Laws.{later-instant, never-is, never-timer, timer-split, 
 use Rattle.rules.specs.declared.Refusal.{Refusal}
 use Rattle.rules.specs.declared.Refusal.TheVariants.{Idle, ClockOverflow}
 use Rattle.rules.specs.declared.Message.{Message}
-use Rattle.rules.specs.Base.{Outcome, refused, done, ◌>>=◌, if◌then◌else◌}
+use Rattle.rules.specs.Base.{Outcome, refused, done, ◌>>=◌}
 use Rattle.rules.specs.Sizes.{most_active, is_word}
 use Rattle.rules.specs.Table.{Table, kind_at}
 use Rattle.rules.specs.Simulation.{Simulation, state_at}

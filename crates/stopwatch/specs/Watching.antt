@@ -1,12 +1,12 @@
 -- What the stopwatch's events answer, on lent words and by the rules. Definitions only. Assumes nothing.
-use Rattle.std.specs.Prelude.{ℕ, ◌≡◌, Bool, ◌&&◌, List, [], ◌∷◌, eqb, Float}
+use Rattle.std.specs.Prelude.{ℕ, ◌≡◌, Bool, ◌&&◌, List, [], ◌∷◌, eqb, Float, if◌then◌else◌}
 use Rattle.times.specs.Time.{instant, never, is_time}
 use Rattle.rules.specs.declared.Refusal.{Refusal}
 use Rattle.rules.specs.declared.Refusal.TheVariants.{InvalidMessage, NoQueueRoom, BadState}
 use Rattle.rules.specs.declared.Stopwatch.{Stopwatch}
 use Rattle.rules.specs.declared.StopwatchPhase.{StopwatchPhase}
 use Rattle.rules.specs.declared.StopwatchPhase.TheVariants as watching
-use Rattle.rules.specs.Base.{Outcome, refused, done, if◌then◌else◌, hold}
+use Rattle.rules.specs.Base.{Outcome, refused, done, hold}
 use Rattle.rules.specs.Table as Table
 use Rattle.rules.specs.Simulation as Simulation
 use Rattle.rules.specs.Valid.{model_fits, guarded_by, stopwatch_external_call, stopwatch_internal_call}

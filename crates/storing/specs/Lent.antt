@@ -1,8 +1,8 @@
 -- The calls on a lent state, and the lent memory after them, for every buffer. Definitions only. Assumes nothing.
-use Rattle.std.specs.Prelude.{ℕ, Bool, List, length, leb}
+use Rattle.std.specs.Prelude.{ℕ, Bool, List, length, leb, if◌then◌else◌}
 use Rattle.rules.specs.declared.Refusal.TheVariants.{BadState}
 use Rattle.rules.specs.declared.Message.{Message}
-use Rattle.rules.specs.Base.{Outcome, refused, done, ◌>>=◌, if◌then◌else◌}
+use Rattle.rules.specs.Base.{Outcome, refused, done, ◌>>=◌}
 use Rattle.rules.specs.Layout.{lent, laid_down}
 use Rattle.rules.specs.Simulation.{Simulation}
 use Rattle.rules.specs.Calls.{Ran, Refused, ended, post, put}

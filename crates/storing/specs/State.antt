@@ -1,10 +1,10 @@
 -- A simulation as the words of a lent state (docs/LAYOUT.md), how long the buffer must be, and what 20 asks of it. Definitions only. Assumes nothing.
-use Rattle.std.specs.Prelude.{ℕ, ◌+◌, ◌-◌, ◌*◌, ◌/◌, ◌^◌, Bool, List, [], ◌∷◌, ◌++◌, map, length, leb, eqb, Float}
+use Rattle.std.specs.Prelude.{ℕ, ◌+◌, ◌-◌, ◌*◌, ◌/◌, ◌^◌, Bool, List, [], ◌∷◌, ◌++◌, map, length, leb, eqb, Float, if◌then◌else◌}
 use Rattle.std.proofs.Math.Option.{Option, none, some}
 use Rattle.std.specs.Float.{binary64}
 use Rattle.std.specs.Float.Ieee.{to_bits}
 use Rattle.times.specs.Time.{never}
-use Rattle.rules.specs.Base.{if◌then◌else◌, every, hold, from}
+use Rattle.rules.specs.Base.{every, hold, from}
 use Rattle.rules.specs.Sizes.{most_rows, most_connectors, most_couplings, most_active, most_jobs}
 use Rattle.rules.specs.Table.{Table, kind_at}
 use Rattle.rules.specs.Intake.{intake, is_passed}

@@ -1,7 +1,6 @@
 -- Rows that a loop passes over: the first from `row` on that passes a test, or the row after the last. Assumes nothing.
-use Rattle.std.specs.Prelude.{ℕ, zero, suc, ◌+◌, ◌-◌, ◌≤◌, ◌<◌, ◌≡◌, refl, Bool, true, false}
+use Rattle.std.specs.Prelude.{ℕ, zero, suc, ◌+◌, ◌-◌, ◌≤◌, ◌<◌, ◌≡◌, refl, Bool, true, false, if◌then◌else◌}
 use Rattle.std.proofs.Common.{subst, arith, add-one}
-use Rattle.rules.specs.Base.{if◌then◌else◌}
 
 -- of the n rows from `row` on the first that passes the test; the row after them if none does
 abbrev pub stop_from : (ℕ → Bool) → ℕ → ℕ → ℕ

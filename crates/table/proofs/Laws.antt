@@ -1,4 +1,5 @@
 -- The bounds of a cell, tests on ports, and lists of tests, said in the code's terms. Assumes nothing.
+use Rattle.std.specs.Prelude.{if◌then◌else◌}
 use Prim.Native.Nat.{ℕ, zero, suc, ◌+◌, ◌-◌, ◌*◌, ◌/◌, ◌≤◌, ◌<◌, ◌^◌}
 use mathlib.Core.Path.{◌≡◌, refl, sym, ap, ◌∙◌}
 use mathlib.Core.Bool.{Bool, true, false, not}
@@ -21,7 +22,7 @@ use Rattle.rules.specs.declared.Metric.TheVariants.{Minimum, Maximum}
 use Rattle.times.specs.Time.{is_time}
 use Rattle.times.specs.Answers.{time_of_bits, time-says}
 use Rattle.times.specs.declared.TimeOf.TheVariants.{Time}
-use Rattle.rules.specs.Base.{if◌then◌else◌, hold, some_of}
+use Rattle.rules.specs.Base.{hold, some_of}
 use Rattle.rules.specs.Table as Table
 use Rattle.rules.specs.Layout.{cell, is_given, metric_in}
 use Rattle.table.specs.declared.Part.{Part}

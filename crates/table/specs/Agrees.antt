@@ -1,6 +1,6 @@
 -- The tests of the words agree with the rules of intake: each row's, and so the first bad row of each part, and the verdict. Assumes nothing.
 use Prim.Native.Nat.{ℕ, zero, suc}
-use Rattle.std.specs.Prelude.{◌≡◌, refl, Bool, false, ◌&&◌, List, [], ◌∷◌, ◌++◌, map, length, T, ltb, eqb}
+use Rattle.std.specs.Prelude.{◌≡◌, refl, Bool, false, ◌&&◌, List, [], ◌∷◌, ◌++◌, map, length, T, ltb, eqb, if◌then◌else◌}
 use Rattle.std.proofs.Math.Path.{sym}
 use Rattle.std.proofs.Common.{ap, ◌∙◌, subst, true≢false, arith, eqb→eq}
 use Rattle.std.proofs.Math.Bool.{true, not}
@@ -11,7 +11,7 @@ use Rattle.std.specs.Float.Ieee.{binary64, of_bits}
 use Rattle.times.specs.Time.{is_time}
 use Rattle.rules.specs.declared.Metric.{Metric}
 use Rattle.rules.specs.Sizes.{is_port, is_id, is_word, largest_batch}
-use Rattle.rules.specs.Base.{if◌then◌else◌, every, hold, from}
+use Rattle.rules.specs.Base.{every, hold, from}
 use Rattle.rules.specs.Table as Table
 use Rattle.rules.specs.Intake.{kind_rules, is_new, parent_fits, depth_fits, row_rules, connector_rules, coupling_rules, first_bad_row, first_bad, is_coupled_id, is_component_of}
 use Rattle.rules.specs.Ends.{no-some, if-both, one}

@@ -1,5 +1,5 @@
 -- The tests against the rows before a row, as searches of the words. Assumes nothing.
-use Rattle.std.specs.Prelude.{ℕ, zero, suc, ◌+◌, ◌≡◌, refl, Bool, true, false, ◌&&◌, List, [], ◌∷◌, leb}
+use Rattle.std.specs.Prelude.{ℕ, zero, suc, ◌+◌, ◌≡◌, refl, Bool, true, false, ◌&&◌, List, [], ◌∷◌, leb, if◌then◌else◌}
 use Rattle.std.proofs.Math.Path.{sym, ap}
 use Rattle.std.proofs.Common.{◌∙◌, add-zero, zero-add, arith, eqb-true, ne_eqb}
 use Rattle.std.proofs.Math.Bool.{not}
@@ -7,7 +7,7 @@ use Rattle.std.proofs.Math.Option.{Option, none, some}
 use Rattle.std.proofs.Math.Dec.{eqb}
 use Rattle.rules.specs.declared.Metric.{Metric}
 use Rattle.rules.specs.Sizes.{is_port}
-use Rattle.rules.specs.Base.{if◌then◌else◌, some_of, hold, from}
+use Rattle.rules.specs.Base.{some_of, hold, from}
 use Rattle.rules.specs.Table as Table
 use Rattle.rules.specs.Table.{is_coupled}
 use Rattle.rules.specs.Intake.{is_new, is_coupled_id, depth_of, depth_fits}

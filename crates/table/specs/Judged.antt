@@ -1,5 +1,5 @@
 -- The verdict on a lent table is that of its words: sizes, then the first bad row of each part. Assumes nothing.
-use Rattle.std.specs.Prelude.{ℕ, zero, suc, ◌+◌, ◌*◌, ◌/◌, ◌≤◌, ◌<◌, ◌≡◌, refl, Bool, true, false, ◌&&◌, length, leb}
+use Rattle.std.specs.Prelude.{ℕ, zero, suc, ◌+◌, ◌*◌, ◌/◌, ◌≤◌, ◌<◌, ◌≡◌, refl, Bool, true, false, ◌&&◌, length, leb, if◌then◌else◌}
 use Rattle.std.proofs.Common.{sym, ◌∙◌, subst, add-zero, zero-add, arith, le-leb}
 use Rattle.std.proofs.Math.Path.{ap}
 use Rattle.std.proofs.Math.Bool.{not}
@@ -10,7 +10,7 @@ use Rattle.std.proofs.lemmas.List.{length-map}
 use Rattle.std.proofs.Math.Dec.{T, eqb}
 use Rattle.std.specs.Float.Ieee.Bits.{is_true}
 use Rattle.std.specs.Float.Ieee.Fits.{and_l}
-use Rattle.rules.specs.Base.{if◌then◌else◌, some_of, hold, from}
+use Rattle.rules.specs.Base.{some_of, hold, from}
 use Rattle.rules.specs.Table as Table
 use Rattle.rules.specs.Table.{is_coupled}
 use Rattle.rules.specs.Intake as Intake

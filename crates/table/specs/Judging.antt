@@ -1,11 +1,11 @@
 -- What the private functions of `table` answer: a row read whether it is whole or not, and the tests of a row, a connector and a coupling in the code's order. Definitions only. Assumes nothing.
-use Rattle.std.specs.Prelude.{ℕ, zero, suc, ◌-◌, ◌/◌, Bool, true, false, not, ◌&&◌, List, [], ◌∷◌, length, leb, ltb, eqb}
+use Rattle.std.specs.Prelude.{ℕ, zero, suc, ◌-◌, ◌/◌, Bool, true, false, not, ◌&&◌, List, [], ◌∷◌, length, leb, ltb, eqb, if◌then◌else◌}
 use Rattle.std.proofs.Math.Option.{Option, none, some}
 use Rattle.std.specs.Float.{binary64}
 use Rattle.std.specs.Float.Ieee.{of_bits}
 use Rattle.rules.specs.declared.Metric.{Metric}
 use Rattle.rules.specs.Sizes.{is_port, is_id}
-use Rattle.rules.specs.Base.{if◌then◌else◌, every, some_of, hold, from}
+use Rattle.rules.specs.Base.{every, some_of, hold, from}
 use Rattle.rules.specs.Table as Table
 use Rattle.rules.specs.Table.{is_parent}
 use Rattle.rules.specs.Intake.{is_new, parent_fits, depth_fits, is_coupled_id, is_component_of}

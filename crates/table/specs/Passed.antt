@@ -1,5 +1,5 @@
 -- What the words of a table say once it has passed intake: how many there are, and that each row, connector and coupling of the table is read off them. Assumes nothing.
-use Rattle.std.specs.Prelude.{ℕ, zero, suc, ◌+◌, ◌*◌, ◌≤◌, ◌<◌, ◌≡◌, refl, Bool, true, false, length, take, T, leb, eqb}
+use Rattle.std.specs.Prelude.{ℕ, zero, suc, ◌+◌, ◌*◌, ◌≤◌, ◌<◌, ◌≡◌, refl, Bool, true, false, length, take, T, leb, eqb, if◌then◌else◌}
 use Rattle.std.proofs.Math.Path.{sym, ap}
 use Rattle.std.proofs.Common.{◌∙◌, subst, add-zero, zero-add, arith, drop_of_length-le, leb→le, eqb→eq}
 use Rattle.std.proofs.lemmas.Bool.{false≢true}
@@ -9,7 +9,7 @@ use Rattle.std.proofs.Math.Decide.{dec_le}
 use Rattle.std.proofs.Math.ListN.{get_or, get_or-eq_default}
 use Rattle.std.specs.Float.Ieee.Bits.{is_true}
 use Rattle.rules.specs.Sizes.{is_id}
-use Rattle.rules.specs.Base.{if◌then◌else◌, hold, from}
+use Rattle.rules.specs.Base.{hold, from}
 use Rattle.rules.specs.Table.{Kind, Row, Connector, Coupling, Table, no_row, row_at, id_at, kind_at, is_coupled}
 use Rattle.rules.specs.Intake.{kind_rules, depth_of, intake, passed, coupling_rules}
 use Rattle.rules.specs.Ends.{no-some, if-both, All, nil, ◌&◌, parts, whole_of}

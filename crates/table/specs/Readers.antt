@@ -1,7 +1,7 @@
 -- What the readers of a lent table answer, by the layout (rules, Layout.antt). Definitions only. Assumes nothing.
-use Rattle.std.specs.Prelude.{ℕ, zero, suc, ◌*◌, List, [], ◌∷◌, take, drop}
+use Rattle.std.specs.Prelude.{ℕ, zero, suc, ◌*◌, List, [], ◌∷◌, take, drop, if◌then◌else◌}
 use Rattle.std.proofs.Math.Option.{Option, none, some}
-use Rattle.rules.specs.Base.{if◌then◌else◌, hold}
+use Rattle.rules.specs.Base.{hold}
 use Rattle.rules.specs.Table as Table
 use Rattle.rules.specs.Intake.{kind_rules, depth_of}
 use Rattle.rules.specs.Layout.{cell, model_width, parent_in}

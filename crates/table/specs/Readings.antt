@@ -1,10 +1,10 @@
 -- What was read of a row: its parent, and a Processor whose ports fit. Assumes nothing.
-use Rattle.std.specs.Prelude.{ℕ, ◌<◌, ◌^◌, ◌≡◌, refl, Bool, true, false, List, [], ◌∷◌}
+use Rattle.std.specs.Prelude.{ℕ, ◌<◌, ◌^◌, ◌≡◌, refl, Bool, true, false, List, [], ◌∷◌, if◌then◌else◌}
 use Rattle.std.proofs.Common.{sym, ap, ◌∙◌, lt-ltb}
 use Rattle.std.proofs.lemmas.Bool.{false≢true}
 use Rattle.std.proofs.Math.Option.{Option, none, some}
 use Rattle.rules.specs.Sizes.{is_port, is_word, omitted_capacity}
-use Rattle.rules.specs.Base.{if◌then◌else◌, hold}
+use Rattle.rules.specs.Base.{hold}
 use Rattle.rules.specs.Layout.{cell, is_given, capacity_in, kind_in}
 use Rattle.table.specs.declared.Parent.{Parent}
 use Rattle.table.specs.Readers.{kind_of, parent_of}

@@ -1,7 +1,7 @@
 -- Active messages and the models that take them: one model and one message, one model and all of them. Definitions only. Assumes nothing.
-use Rattle.std.specs.Prelude.{ℕ, ◌+◌, ◌-◌, ◌≤◌, Bool, List, length, ltb, eqb, Float}
+use Rattle.std.specs.Prelude.{ℕ, ◌+◌, ◌-◌, ◌≤◌, Bool, List, length, ltb, eqb, Float, if◌then◌else◌}
 use Rattle.rules.specs.declared.Message.{Message}
-use Rattle.rules.specs.Base.{Outcome, done, if◌then◌else◌, each, those}
+use Rattle.rules.specs.Base.{Outcome, done, each, those}
 use Rattle.rules.specs.Table.{Table, id_at}
 use Rattle.rules.specs.Step.{World, levels, external}
 use Rattle.rules.specs.Ends.{All}

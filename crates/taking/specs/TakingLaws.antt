@@ -1,11 +1,11 @@
 -- The laws of messages that are taken: where they stand nothing changes, their words are narrow, and message by message they are all. Assumes nothing.
-use Rattle.std.specs.Prelude.{ℕ, zero, suc, ◌+◌, ◌*◌, ◌-◌, ◌≤◌, ◌<◌, ◌≡◌, refl, Bool, true, false, List, [], ◌∷◌, map, length, T, eqb, Float}
+use Rattle.std.specs.Prelude.{ℕ, zero, suc, ◌+◌, ◌*◌, ◌-◌, ◌≤◌, ◌<◌, ◌≡◌, refl, Bool, true, false, List, [], ◌∷◌, map, length, T, eqb, Float, if◌then◌else◌}
 use Rattle.std.proofs.Common.{sym, ap, subst, ◌∙◌, inr, arith, ltb-false, eq-eqb, ne_eqb, ltb→lt}
 use Rattle.std.proofs.lemmas.Bool.{eqb-false}
 use Rattle.std.specs.Float.{binary64}
 use Rattle.std.specs.Float.Ieee.{of_bits}
 use Rattle.rules.specs.declared.Message.{Message}
-use Rattle.rules.specs.Base.{Outcome, done, ◌>>=◌, if◌then◌else◌, each, those, from}
+use Rattle.rules.specs.Base.{Outcome, done, ◌>>=◌, each, those, from}
 use Rattle.rules.specs.Table.{Table, id_at, row_at, is_parentless}
 use Rattle.rules.specs.Step.{World, levels, external}
 use Rattle.rules.specs.Valid.{message_rules}

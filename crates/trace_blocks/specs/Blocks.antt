@@ -1,6 +1,6 @@
 -- A trace on disk (02, A1), block by block: the 128 words of so many rows and their 512 bytes; what a reader asks of a block, and the rows in it. Definitions only. Assumes nothing.
-use Rattle.std.specs.Prelude.{ℕ, ◌+◌, ◌-◌, ◌*◌, ◌/◌, ◌%◌, ◌^◌, Bool, ◌||◌, List, [], ◌∷◌, ◌++◌, map, length, get_or, leb, eqb}
-use Rattle.rules.specs.Base.{if◌then◌else◌, every, hold, from}
+use Rattle.std.specs.Prelude.{ℕ, ◌+◌, ◌-◌, ◌*◌, ◌/◌, ◌%◌, ◌^◌, Bool, ◌||◌, List, [], ◌∷◌, ◌++◌, map, length, get_or, leb, eqb, if◌then◌else◌}
+use Rattle.rules.specs.Base.{every, hold, from}
 use Rattle.words.specs.Laying.{zeros, over}
 use Rattle.trace_blocks.specs.declared.BlockKind.{BlockKind}
 use Rattle.trace_blocks.specs.declared.Judged.{Judged}

@@ -1,11 +1,11 @@
 -- The laws of a block by pairs: a pair has its eight bytes and its two words, words that follow one another go by pairs, a row's number is a pair, and a block is judged by its pairs, test after test. Assumes nothing.
-use Rattle.std.specs.Prelude.{ℕ, zero, suc, ◌+◌, ◌-◌, ◌*◌, ◌/◌, ◌%◌, ◌≤◌, ◌<◌, Bool, ◌||◌, ◌≡◌, List, [], ◌∷◌, ◌++◌, map, length, get_or, set, take, T, leb}
+use Rattle.std.specs.Prelude.{ℕ, zero, suc, ◌+◌, ◌-◌, ◌*◌, ◌/◌, ◌%◌, ◌≤◌, ◌<◌, Bool, ◌||◌, ◌≡◌, List, [], ◌∷◌, ◌++◌, map, length, get_or, set, take, T, leb, if◌then◌else◌}
 use Rattle.std.proofs.Math.Bool.{true, false}
 use Rattle.std.proofs.Math.Path.{refl, ap}
 use Rattle.std.proofs.Common.{sym, subst, ◌∙◌, le_trans, mul-le-mul_left, add-one, take-suc-set}
 use native.Mathlib.Omega.{arith}
 use Rattle.std.proofs.Math.Dec.{eqb, eqb-suc-zero}
-use Rattle.rules.specs.Base.{if◌then◌else◌, every, hold, from}
+use Rattle.rules.specs.Base.{every, hold, from}
 use Rattle.rules.specs.Ends.{All, nil, ◌&◌}
 use Rattle.rules.specs.Decides.{tells, ◌and◌, alone, at-most, itself}
 use Rattle.words.specs.Lists.{map_last}

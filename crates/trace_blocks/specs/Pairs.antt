@@ -1,6 +1,5 @@
 -- A block by pairs of words, as the code goes through it; the numbers of a block's rows in what is lent for them. Definitions only. Assumes nothing.
-use Rattle.std.specs.Prelude.{ℕ, ◌+◌, ◌*◌, ◌&&◌, List, length, leb}
-use Rattle.rules.specs.Base.{if◌then◌else◌}
+use Rattle.std.specs.Prelude.{ℕ, ◌+◌, ◌*◌, ◌&&◌, List, length, leb, if◌then◌else◌}
 use Rattle.trace_blocks.specs.Blocks.{block_bytes, word_limit, word_at, count_in, numbers_in}
 
 -- the words 2 i and 2 i + 1 as one number, low word first

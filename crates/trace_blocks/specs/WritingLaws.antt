@@ -1,5 +1,5 @@
 -- A block as it is written, part after part: four bytes of a word set one by one, the numbers of the rows one after the other, and the whole. Assumes nothing.
-use Rattle.std.specs.Prelude.{ℕ, zero, suc, ◌+◌, ◌-◌, ◌*◌, ◌/◌, ◌%◌, ◌≤◌, ◌<◌, true, ◌≡◌, get_or, set, take, T}
+use Rattle.std.specs.Prelude.{ℕ, zero, suc, ◌+◌, ◌-◌, ◌*◌, ◌/◌, ◌%◌, ◌≤◌, ◌<◌, true, ◌≡◌, get_or, set, take, T, if◌then◌else◌}
 use Rattle.std.proofs.Math.Path.{refl, sym, ap}
 use Rattle.std.proofs.Common.{subst, ◌∙◌, zero-add, div-le_self, add-one, length-set, take-suc}
 use mathlib.Core.List.{List, [], ◌∷◌, ◌++◌, append_assoc}
@@ -7,7 +7,6 @@ use native.Mathlib.Omega.{arith}
 use Rattle.std.proofs.Math.ListN.{length, length-append}
 use Rattle.std.proofs.Math.Seq.{length-take-le}
 use Rattle.words.specs.Laying.{zeros, zeros-long, over, laid, laid_one, laid_more, three-laid}
-use Rattle.rules.specs.Base.{if◌then◌else◌}
 use Rattle.rules.specs.Decides.{tells, ◌and◌, alone, at-most}
 use Rattle.trace_blocks.specs.declared.BlockKind.{BlockKind}
 use Rattle.trace_blocks.specs.WordLaws.{bytes-long, halves_long, sum-append}

@@ -1,6 +1,6 @@
 -- A trace on disk (02, A1): the file of a list of rows, in blocks, and the reading of a file from a block on. Definitions only. Assumes nothing.
-use Rattle.std.specs.Prelude.{ℕ, zero, suc, ◌+◌, ◌-◌, ◌*◌, ◌/◌, ◌^◌, Bool, ◌&&◌, List, [], ◌∷◌, ◌++◌, map, length, take, drop, leb, eqb}
-use Rattle.rules.specs.Base.{Outcome, refused, done, if◌then◌else◌, from}
+use Rattle.std.specs.Prelude.{ℕ, zero, suc, ◌+◌, ◌-◌, ◌*◌, ◌/◌, ◌^◌, Bool, ◌&&◌, List, [], ◌∷◌, ◌++◌, map, length, take, drop, leb, eqb, if◌then◌else◌}
+use Rattle.rules.specs.Base.{Outcome, refused, done, from}
 use Rattle.rules.specs.declared.Refusal.TheVariants.{NoOutRoom, BadBlock}
 use Rattle.rules.specs.Names.{number}
 use Rattle.words.specs.Laying.{over}

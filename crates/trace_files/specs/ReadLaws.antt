@@ -1,13 +1,13 @@
 -- What a reader answers, exactly: the rows, 14 with the first bad block's number, or 13; and what a writer answers. Assumes nothing.
 use Prim.Native.Nat.{ℕ, zero, suc, ◌+◌, ◌-◌, ◌*◌, ◌≤◌, ◌<◌}
-use Rattle.std.specs.Prelude.{◌≡◌, refl, ◌↔◌, ◌⊎◌, Bool, true, false, not, length, T, leb}
+use Rattle.std.specs.Prelude.{◌≡◌, refl, ◌↔◌, ◌⊎◌, Bool, true, false, not, length, T, leb, if◌then◌else◌}
 use Rattle.std.proofs.Math.Path.{sym, ap}
 use Rattle.std.proofs.Common.{subst, ◌∙◌, inl, inr, T_not, leb→le}
 use mathlib.Core.List.{List, [], ◌∷◌, ◌++◌, map}
 use Rattle.std.proofs.Math.Decide.{dec_le}
 use native.Mathlib.Omega.{arith}
 use Rattle.std.proofs.Math.Dec.{nleb→lt}
-use Rattle.rules.specs.Base.{if◌then◌else◌, from}
+use Rattle.rules.specs.Base.{from}
 use Rattle.trace_blocks.specs.declared.BlockKind.{BlockKind}
 use Rattle.trace_blocks.specs.Blocks.{block_bytes, sum, count_in, rows_in}
 use Rattle.trace_blocks.specs.WordLaws.{sum-append, from_parts}

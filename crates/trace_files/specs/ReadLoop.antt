@@ -2,13 +2,13 @@
 use Prim.Native.Nat.{ℕ, suc, ◌+◌, ◌-◌, ◌*◌, ◌/◌, ◌≤◌, ◌<◌}
 use Rattle.std.proofs.Math.Path.{◌≡◌, refl, ap}
 use Rattle.std.proofs.Common.{sym, subst, ◌∙◌, append-nil, append_assoc, zero-add, mul-le-mul_left, add-one, length-append, length-take, length-drop}
-use Rattle.std.specs.Prelude.{Bool, List, [], ◌∷◌, ◌++◌, length, take, drop, T, leb, eqb}
+use Rattle.std.specs.Prelude.{Bool, List, [], ◌∷◌, ◌++◌, length, take, drop, T, leb, eqb, if◌then◌else◌}
 use Rattle.std.proofs.Math.Bool.{true, false}
 use Rattle.std.proofs.Math.Nat.{sub-zero, zero-div, mul-add-div, mul-div-le}
 use native.Mathlib.Omega.{arith}
 use borrow.Author.Tests.{le-leb, lt-leb, leb-true, eq-eqb, ne_eqb, eqb-true, eqb-false}
 use borrow.Rule.Slice.PartMut.{put_mid}
-use Rattle.rules.specs.Base.{if◌then◌else◌, hold}
+use Rattle.rules.specs.Base.{hold}
 use Rattle.rules.specs.Decides.{tells, is_false}
 use Rattle.words.specs.Lists.{part_length}
 use Rattle.words.specs.Laying.{over, laid, laid_more, laid-long}

@@ -1,9 +1,9 @@
 -- The writer's answer by its tests: where it is refused, and that else the whole rows' blocks are written; what the loop then needs. Assumes nothing.
-use Rattle.std.specs.Prelude.{ℕ, zero, suc, ◌+◌, ◌-◌, ◌*◌, ◌/◌, ◌%◌, ◌≤◌, ◌<◌, ◌≡◌, refl, Bool, true, false, ◌&&◌, List, length, take, leb}
+use Rattle.std.specs.Prelude.{ℕ, zero, suc, ◌+◌, ◌-◌, ◌*◌, ◌/◌, ◌%◌, ◌≤◌, ◌<◌, ◌≡◌, refl, Bool, true, false, ◌&&◌, List, length, take, leb, if◌then◌else◌}
 use Rattle.std.proofs.Common.{ap, ◌∙◌, div-mul-le_self, div-lt_iff_lt-mul, le-div_iff_mul-le, arith, length-take-le}
 use Rattle.std.proofs.Math.Nat.{sub-zero, mul-mod_left}
 use borrow.Author.Tests.{le-leb, lt-leb}
-use Rattle.rules.specs.Base.{refused, done, if◌then◌else◌}
+use Rattle.rules.specs.Base.{refused, done}
 use Rattle.rules.specs.declared.Refusal.TheVariants.{NoOutRoom}
 use Rattle.trace_blocks.specs.declared.BlockKind.{BlockKind}
 use Rattle.trace_blocks.specs.Blocks.{is_kind}

@@ -1,11 +1,10 @@
 -- What is parked in a Coupled, by the number in its head; and its own timer by that. Assumes nothing.
-use Rattle.std.specs.Prelude.{ℕ, ◌≤◌, ◌<◌, ◌≡◌, refl, Bool, true, false, List, [], ◌∷◌, length, take, T, ltb}
+use Rattle.std.specs.Prelude.{ℕ, ◌≤◌, ◌<◌, ◌≡◌, refl, Bool, true, false, List, [], ◌∷◌, length, take, T, ltb, if◌then◌else◌}
 use Rattle.std.proofs.Common.{sym, ap, ◌∙◌, subst, arith, leb→le, eqb→eq, ltb→lt, lt→ltb}
 use Rattle.std.proofs.lemmas.List.{length-map}
 use Rattle.std.specs.Float.{binary64}
 use Rattle.std.specs.Float.Ieee.{of_bits}
 use Rattle.times.specs.Time.{never}
-use Rattle.rules.specs.Base.{if◌then◌else◌}
 use Rattle.rules.specs.Table.{Kind, processor, batcher, stopwatch, coupled, Table, kind_at, is_coupled}
 use Rattle.rules.specs.Simulation.{Parked, of_coupled}
 use Rattle.rules.specs.Ends.{All, nil, ◌&◌}

@@ -1,5 +1,5 @@
 -- A stopwatch's events in place are the rules' events on the row's state. Assumes nothing.
-use Rattle.std.specs.Prelude.{ℕ, ◌+◌, ◌^◌, ◌≤◌, ◌<◌, ◌≡◌, refl, Bool, List, [], ◌∷◌, map, length, set, take, T, eqb, ltb, Float}
+use Rattle.std.specs.Prelude.{ℕ, ◌+◌, ◌^◌, ◌≤◌, ◌<◌, ◌≡◌, refl, Bool, List, [], ◌∷◌, map, length, set, take, T, eqb, ltb, Float, if◌then◌else◌}
 use Rattle.std.proofs.Common.{arith, sym, ap, ◌∙◌, subst, inl, inr, length-set, drop-cons, get_or-set_same, get_or-set_other, ltb→lt}
 use Rattle.std.proofs.Math.Bool.{true, false}
 use Rattle.std.specs.Float.{binary64}
@@ -12,7 +12,7 @@ use Rattle.rules.specs.declared.Refusal.TheVariants.{InvalidMessage}
 use Rattle.rules.specs.declared.Stopwatch.{Stopwatch}
 use Rattle.rules.specs.declared.StopwatchPhase.{StopwatchPhase}
 use Rattle.rules.specs.declared.StopwatchPhase.TheVariants as watching
-use Rattle.rules.specs.Base.{Outcome, refused, done, if◌then◌else◌}
+use Rattle.rules.specs.Base.{Outcome, refused, done}
 use Rattle.rules.specs.Table as Table
 use Rattle.rules.specs.Simulation as Simulation
 use Rattle.rules.specs.Models.{Fate, stopwatch_external, stopwatch_internal}

@@ -1,11 +1,11 @@
 -- The laws of a queue in lent words, for any number of words: what a push and a release leave of the jobs and of the unused places. Assumes nothing.
-use Rattle.std.specs.Prelude.{ℕ, zero, suc, ◌+◌, ◌-◌, ◌≤◌, ◌<◌, ◌≡◌, Bool, true, false, T, length, set, take, drop}
+use Rattle.std.specs.Prelude.{ℕ, zero, suc, ◌+◌, ◌-◌, ◌≤◌, ◌<◌, ◌≡◌, Bool, true, false, T, length, set, take, drop, if◌then◌else◌}
 use Rattle.std.proofs.Common.{ap, ◌∙◌, arith, add-one, length-append, length-take, length-set, length-take-le, take_at, take-suc-set, drop-set-lt, drop-drop}
 use mathlib.Core.List.{List, [], ◌∷◌, ◌++◌, append_assoc}
 use Rattle.std.proofs.Math.Dec.{eqb}
 use Rattle.std.proofs.Math.ListN.{length-drop, length-map}
 use Rattle.std.proofs.Math.Seq.{length-slice, drop_at}
-use Rattle.rules.specs.Base.{if◌then◌else◌, every}
+use Rattle.rules.specs.Base.{every}
 use Rattle.words.specs.Queue.{queue_in, unused_clear, cleared, moved_up}
 
 -- ---- every place is clear

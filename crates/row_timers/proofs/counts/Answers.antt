@@ -1,8 +1,8 @@
 -- `row_timers::counts` meets its contract. Assumes nothing.
+use Rattle.std.specs.Prelude.{if◌then◌else◌}
 use mathlib.Core.Path.{sym, ap, ◌∙◌}
 use mathlib.Core.Bool.{Bool, true}
 use lib.Dec.{ltb}
-use Rattle.rules.specs.Base.{if◌then◌else◌}
 use Rattle.memory.specs.Words.{held_in}
 use Rattle.row_timers.proofs.counts.Goals as goal
 

@@ -1,6 +1,6 @@
 -- `trace_blocks::write_block` meets its contract. Assumes nothing.
+use Rattle.std.specs.Prelude.{if◌then◌else◌}
 use mathlib.Core.Path.{sym, ap, ◌∙◌}
-use Rattle.rules.specs.Base.{if◌then◌else◌}
 use Rattle.words.specs.Laying.{over}
 use Rattle.trace_blocks.specs.Blocks.{block_of, written_block}
 use borrow.Author.Rules.{rules}
