@@ -10,7 +10,7 @@ use Rattle.std.specs.Float.Ieee.Fits.{down_pos}
 use Rattle.std.specs.Float.Ieee.Positive.{first_pos}
 use Rattle.std.specs.Float.Ieee.Scale.{round_same}
 use Rattle.times.specs.Order.{Is, is}
-use Rattle.times.specs.Whole.{tick, tick_is}
+use Rattle.times.proofs.Whole.{tick, tick_is}
 use Rattle.bench_words.specs.declared.Number.TheVariants.{Not}
 use Rattle.bench_words.specs.Texts.{text_span}
 use Rattle.bench_words.specs.Numbers.{numeral, over_tens, nines, decimal_of}

@@ -14,8 +14,8 @@ use Rattle.std.specs.Float.Ieee.Scale.{finite, round_same, round_val, round_unde
 use Rattle.times.specs.Time.{instant, latest, clear, is_time}
 use Rattle.times.specs.Order as Order
 use Rattle.times.specs.Rounded.{round-at}
-use Rattle.times.specs.Laws.{time-decides, time-fits, instant-time, latest-time}
-use Rattle.times.specs.Whole.{tick, tick-time}
+use Rattle.times.proofs.Laws.{time-decides, time-fits, instant-time, latest-time}
+use Rattle.times.proofs.Whole.{tick, tick-time}
 use Rattle.bench_words.specs.declared.Number.{Number}
 use Rattle.bench_words.specs.declared.Number.TheVariants.{Is, Not}
 use Rattle.bench_words.specs.Texts.{is_dot, text_span}

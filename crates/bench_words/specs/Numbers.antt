@@ -2,7 +2,7 @@
 use Rattle.std.specs.Prelude.{ℕ, suc, ◌+◌, ◌*◌, ◌-◌, ◌^◌, Bool, false, ◌&&◌, List, [], ◌∷◌, ◌++◌, length, get_or, take, drop, leb, ltb, eqb, if◌then◌else◌}
 use Rattle.std.specs.Float.{binary64}
 use Rattle.std.specs.Float.Ieee.{round, to_bits}
-use Rattle.times.specs.Whole.{tick}
+use Rattle.times.proofs.Whole.{tick}
 use Rattle.bench_words.specs.declared.Number.{Number}
 use Rattle.bench_words.specs.declared.Number.TheVariants.{Is, Not}
 use Rattle.bench_words.specs.Texts.{text_span}

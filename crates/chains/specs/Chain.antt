@@ -8,7 +8,7 @@ use Rattle.rules.specs.Simulation.{of_batcher, Simulation, state_at}
 use Rattle.rules.specs.Step.{Happening}
 use Rattle.rules.specs.Calls as Calls
 use Rattle.rules.specs.Calls.{Call, InjectInput, Step, StepN, StepUntil, Reset, ResetMessages, ResetGlobalTime}
-use Rattle.rules.specs.Runs.{CallFits}
+use Rattle.rules.proofs.Runs.{CallFits}
 use Rattle.lookup.specs.Inside.{count_in}
 use Rattle.rerunning.specs.Running.{sim_of}
 use Rattle.storing.specs.State.{state_words, is_stored}

@@ -19,7 +19,7 @@ use Rattle.rules.specs.Calls as Calls
 use Rattle.rules.specs.Calls.{End, Done, Reached, Spent, Refused, Ran, post, put, Call, InjectInput, Step, StepN, StepUntil, Reset, ResetMessages, ResetGlobalTime, changed, called, calls}
 use Rattle.rules.specs.Ends.{no-some, All, ◌&◌, Ends, stops, goes, ends-if, ends-bind, ends-map, Whatever, ends-done}
 use Rattle.rules.specs.Decides.{intake-exactly}
-use Rattle.rules.specs.Runs.{Valid, valid-of, is-valid, step-ends, EndsWell, CallFits, Carried, called-keeps, NotTwenty, any-closed, called-valid}
+use Rattle.rules.proofs.Runs.{Valid, valid-of, is-valid, step-ends, EndsWell, CallFits, Carried, called-keeps, NotTwenty, any-closed, called-valid}
 use Rattle.lookup.specs.Inside.{count_in, tail_at, models_in, connectors_in, couplings_in, table_in}
 use Rattle.lookup.specs.InsideLaws.{counts}
 use Rattle.rerunning.specs.Running.{sim_of}

@@ -5,13 +5,13 @@ use Rattle.std.proofs.Math.Seq.{paste-suc}
 use Rattle.std.specs.Float.{binary64}
 use Rattle.std.specs.Float.Ieee.{of_bits, to_bits}
 use Rattle.times.specs.Time.{is_time}
-use Rattle.times.specs.Laws.{timer-clear, time-timer}
-use Rattle.times.specs.Patterns.{clear-bits}
+use Rattle.times.proofs.Laws.{timer-clear, time-timer}
+use Rattle.times.proofs.Patterns.{clear-bits}
 use Rattle.rules.specs.declared.Message.{Message}
 use Rattle.rules.specs.Base.{from}
 use Rattle.rules.specs.Ends.{All, ◌&◌, parts}
 use Rattle.rules.specs.Valid.{message_rules}
-use Rattle.rules.specs.Worlds.{MessageFits}
+use Rattle.rules.proofs.Worlds.{MessageFits}
 use Rattle.rules.specs.Layout.{message_width, written, written_all, laid_down}
 use Rattle.memory.specs.Words.{word_at}
 use Rattle.views.specs.Messages.{message_in, messages_in}

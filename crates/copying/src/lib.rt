@@ -5,7 +5,7 @@ ghost use Rattle.std.specs.Prelude.{◌≡◌, ◌+◌, ◌*◌, ◌≤◌, ◌<
 ghost use Rattle.rules.specs.Layout.{laid_down};
 ghost use Rattle.rules.specs.Table.{kind_at};
 ghost use Rattle.rules.specs.Ends.{All};
-ghost use Rattle.rules.specs.Worlds.{MessageFits};
+ghost use Rattle.rules.proofs.Worlds.{MessageFits};
 ghost use Rattle.memory.specs.Words.{head_at, width_of};
 ghost use Rattle.views.specs.World.{end_of, Laid};
 ghost use Rattle.views.specs.Messages.{messages_in};

@@ -13,7 +13,7 @@ use lib.Ieee.Nearest.{closest_same}
 use borrow.Author.Tests.{ne_eqb}
 use Rattle.times.specs.Time.{is_time}
 use Rattle.times.specs.Order.{value}
-use Rattle.times.specs.Patterns.{limit, leading, at_zero, at-middle, bits-clear, time-pattern}
+use Rattle.times.proofs.Patterns.{limit, leading, at_zero, at-middle, bits-clear, time-pattern}
 use Rattle.decimals.specs.Decimal.{million, nearest, millionths, placed, micros_of}
 use Rattle.decimals.specs.Rounding.{nearest-exact, nearest-none}
 use Rattle.decimals.specs.Laws.{of-time, by_fraction}

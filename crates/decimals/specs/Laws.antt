@@ -9,8 +9,8 @@ use Rattle.std.specs.Float.Ieee.Nearest.{closest_same, closest_mono}
 use Rattle.std.specs.Float.Ieee.Positive.{num, den, den_pos}
 use Rattle.times.specs.Time.{is_time}
 use Rattle.times.specs.Order.{Number, at, Is, is, cross}
-use Rattle.times.specs.Laws.{time-number}
-use Rattle.times.specs.Whole.{tick, tick_is, tick-time}
+use Rattle.times.proofs.Laws.{time-number}
+use Rattle.times.proofs.Whole.{tick, tick_is, tick-time}
 use Rattle.decimals.specs.Decimal.{million, nearest, millionths, placed, micros_of}
 use Rattle.decimals.specs.Rounding.{Nearest, nearest-is, nearest-only, nearest-exact}
 use Rattle.decimals.specs.declared.Micros.{Micros}

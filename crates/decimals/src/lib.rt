@@ -4,7 +4,7 @@
 ghost use Rattle.std.specs.Prelude.{◌≡◌, ◌*◌, ◌^◌, ◌≤◌, ◌<◌};
 ghost use Rattle.std.specs.Float.{binary64};
 ghost use Rattle.std.specs.Float.Ieee.{of_bits};
-ghost use Rattle.times.specs.Patterns.{limit};
+ghost use Rattle.times.proofs.Patterns.{limit};
 ghost use Rattle.decimals.specs.Decimal.{million, nearest, millionths, placed, micros_of};
 
 // How many of the last place are 1.

@@ -9,7 +9,7 @@ use borrow.Rule.Slice.PartMut.{put_mid}
 use Rattle.std.proofs.Math.ListN.{length}
 use Rattle.std.specs.Float.Ieee.{lt}
 use Rattle.times.specs.Time.{never, is_time}
-use Rattle.times.specs.Laws as law
+use Rattle.times.proofs.Laws as law
 use Rattle.times.specs.Order.{same_test, Number, at}
 use Rattle.rules.specs.declared.Refusal.{Refusal}
 use Rattle.rules.specs.declared.Refusal.TheVariants.{BadTime, NoOutRoom}
@@ -23,7 +23,7 @@ use Rattle.rules.specs.Layout.{message_width, written, written_all, laid_down}
 use Rattle.rules.specs.Ends.{Ends, stops, goes, ends-map}
 use Rattle.rules.specs.Depth.{passed-again}
 use Rattle.rules.specs.Valid.{is_valid}
-use Rattle.rules.specs.Runs.{Valid, is-valid, step-ends, any-closed, NotTwenty}
+use Rattle.rules.proofs.Runs.{Valid, is-valid, step-ends, any-closed, NotTwenty}
 use Rattle.rules.specs.Calls.{End, Done, Reached, Spent, Refused, Ran, ended, then_ran, fitting, onward, look, steps, step_n, steps_until, step_until}
 use Rattle.memory.specs.Words.{word_at}
 use Rattle.lookup.specs.Inside.{posted_in, table_in}

@@ -5,7 +5,7 @@ ghost use Rattle.std.specs.Prelude.{◌≡◌, ◌++◌, ℕ, ◌+◌, ◌*◌, 
 ghost use Rattle.times.specs.Time.{is_timer};
 ghost use Rattle.rules.specs.Layout.{room_in, laid_down};
 ghost use Rattle.rules.specs.Ends.{All};
-ghost use Rattle.rules.specs.Worlds.{MessageFits};
+ghost use Rattle.rules.proofs.Worlds.{MessageFits};
 ghost use Rattle.rules.specs.Calls as Calls;
 ghost use Rattle.memory.specs.Words.{word_at};
 ghost use Rattle.lookup.specs.Inside.{table_in};

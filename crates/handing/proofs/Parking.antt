@@ -17,8 +17,8 @@ use Rattle.rules.specs.Simulation.{Parked, State, of_coupled, state_at, as_coupl
 use Rattle.rules.specs.Step.{Happening, World, becomes}
 use Rattle.rules.specs.Valid.{parked_rules, coupled_rules, state_fits}
 use Rattle.rules.specs.Ends.{All, nil, ◌&◌, all_append, all-every, parts, whole_of, ends-most, ends-done}
-use Rattle.rules.specs.Least.{Fitted}
-use Rattle.rules.specs.Worlds.{Good, fitted-set, ParkedFits, parked-fit}
+use Rattle.rules.proofs.Least.{Fitted}
+use Rattle.rules.proofs.Worlds.{Good, fitted-set, ParkedFits, parked-fit}
 use Rattle.words.specs.declared.Found.{Found}
 use Rattle.words.specs.Search.{first_from}
 use Rattle.selection.specs.Selecting.{is_internal}
@@ -29,9 +29,9 @@ use Rattle.memory.specs.Words.{place_in, begin_in, width_of, Own}
 use Rattle.memory.specs.View.{parked_in, state_in, WordsFit, Row}
 use Rattle.parked_rows.specs.Parking.{with_one, Parks}
 use Rattle.views.specs.World.{begin_of, state_of, states_in, world_in, Ready, Frame, Moves, Does}
-use Rattle.views.specs.Layout.{states-long, state-is, row_of}
-use Rattle.views.specs.Frames.{own-laid, own-states, own-frame}
-use Rattle.views.specs.Lifts.{row-kind}
+use Rattle.views.proofs.Layout.{states-long, state-is, row_of}
+use Rattle.views.proofs.Frames.{own-laid, own-states, own-frame}
+use Rattle.views.proofs.Lifts.{row-kind}
 use Rattle.lookup.specs.Inside.{Inside, table_in, couplings_in}
 use Rattle.lookup.specs.InsideLaws.{internals-in, coupling-fits}
 use Rattle.sweeps.specs.Appends.{one_more, appended}

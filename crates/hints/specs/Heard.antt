@@ -17,7 +17,7 @@ use Rattle.rules.specs.Step.{World, External, came, noted, external, levels, tak
 use Rattle.rules.specs.Valid.{is_valid, member}
 use Rattle.rules.specs.Calls.{get_status}
 use Rattle.rules.specs.Ends.{no-some, All, nil, ◌&◌, all-those}
-use Rattle.rules.specs.Exactly.{processor-external-exactly, stopwatch-external-exactly, status-exactly}
+use Rattle.rules.proofs.Exactly.{processor-external-exactly, stopwatch-external-exactly, status-exactly}
 use Rattle.rules.specs.Depth.{Fine, all_in}
 use Rattle.rules.specs.Decides.{Decides, tells, passes, either, is_true, is_false, Any, here, there, same, ◌∈◌, member-decides, those-element, chosen-element, parentless-element, components-element, inputs-element}
 use Rattle.hints.specs.declared.Side.{Side}

@@ -11,8 +11,8 @@ use Rattle.rules.specs.Simulation.{Parked, State, of_coupled, state_at, as_coupl
 use Rattle.rules.specs.Step.{Out, Happening, went, World, noted, becomes, due, External, Internal, external, unpark, hand, turn, internal_as, internal}
 use Rattle.rules.specs.Sizes.{is_word}
 use Rattle.rules.specs.Valid.{state_fits}
-use Rattle.rules.specs.Least.{Fitted}
-use Rattle.rules.specs.Worlds.{fitted-set}
+use Rattle.rules.proofs.Least.{Fitted}
+use Rattle.rules.proofs.Worlds.{fitted-set}
 use Rattle.memory.specs.declared.Put.{Put}
 use Rattle.memory.specs.declared.Put.TheVariants as put
 use Rattle.memory.specs.Words.{place_in, begin_in, width_of, Own}
@@ -21,8 +21,8 @@ use Rattle.memory.specs.Places.{own-alike}
 use Rattle.rules.specs.Depth.{Deep}
 use Rattle.parked_rows.specs.Parking.{Emptied}
 use Rattle.views.specs.World.{begin_of, end_of, state_of, states_in, world_in, Ready, Frame, Moves, Puts, Gives}
-use Rattle.views.specs.Layout.{state-is}
-use Rattle.views.specs.Frames.{own-laid, own-states}
+use Rattle.views.proofs.Layout.{state-is}
+use Rattle.views.proofs.Frames.{own-laid, own-states}
 use Rattle.views.specs.Messages.{Adds, Hands}
 
 -- ---- a component that is not due has no turn; one that is has its event, and what it puts out is handed on

@@ -10,8 +10,9 @@ use Rattle.std.specs.Float.Ieee.{to_bits, fits, le, of_bits}
 use Rattle.std.specs.Float.Ieee.Fits.{and_l, and_r, and_i}
 use Rattle.std.specs.Float.Ieee.Bits.{is_true, of_bits-to_bits}
 use Rattle.times.specs.Time.{never, is_time, is_timer}
-use Rattle.times.specs.Laws.{time-timer, timer-fits, never-timer}
-use Rattle.times.specs.Answers.{time_of_bits, bits_back}
+use Rattle.times.proofs.Laws.{time-timer, timer-fits, never-timer}
+use Rattle.times.specs.Answers.{time_of_bits}
+use Rattle.times.proofs.AnswerLaws.{bits_back}
 use Rattle.rules.specs.declared.Refusal.TheVariants.{NoQueueRoom, BadState}
 use Rattle.rules.specs.Sizes.{is_content, most_jobs}
 use Rattle.rules.specs.Base.{Outcome, refused, done, every, some_of, hold, from}

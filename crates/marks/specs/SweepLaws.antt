@@ -6,7 +6,8 @@ use Rattle.std.specs.Float.{binary64}
 use Rattle.std.specs.Float.Ieee.{add, div, of_int}
 use Rattle.std.specs.Float.Ieee.Bits.{is_true}
 use Rattle.times.specs.Time.{instant, is_time, is_timer}
-use Rattle.times.specs.Answers.{time_of_bits, timer_of_bits, time-says, timer-says}
+use Rattle.times.specs.Answers.{time_of_bits, timer_of_bits}
+use Rattle.times.proofs.AnswerLaws.{time-says, timer-says}
 use Rattle.times.specs.declared.TimeOf.{TimeOf}
 use Rattle.times.specs.declared.TimeOf.TheVariants.{Time, Bad}
 use Rattle.times.specs.declared.TimerOf.TheVariants.{Timer}

@@ -5,7 +5,7 @@ use Rattle.std.proofs.Math.Path.{ap}
 use Rattle.std.specs.Float.Ieee.{eq, le}
 use Rattle.times.specs.Time.{instant, never, is_timer, least_of}
 use Rattle.times.specs.Order.{same_test}
-use Rattle.times.specs.Laws.{timers-zero, timers-instant, timers-antisymmetric, least-is-one, least-timer, least-le-first, least-le-second, never-timer, time-timer, instant-time}
+use Rattle.times.proofs.Laws.{timers-zero, timers-instant, timers-antisymmetric, least-is-one, least-timer, least-le-first, least-le-second, never-timer, time-timer, instant-time}
 use Rattle.rules.specs.Base.{some_of, those, from}
 use Rattle.rules.specs.Table.{Kind, processor, batcher, stopwatch, coupled, Table, id_at, kind_at, components, is_coupled}
 use Rattle.rules.specs.Simulation.{State, of_processor, of_batcher, of_stopwatch, of_coupled, state_at}
@@ -13,8 +13,8 @@ use Rattle.rules.specs.Step.{least, timer_in, timer, due}
 use Rattle.rules.specs.Valid.{state_fits}
 use Rattle.rules.specs.Ends.{or_l, or_r, or_split, All, nil, ◌&◌, all_any}
 use Rattle.rules.specs.Depth.{Fine}
-use Rattle.rules.specs.Least as Least
-use Rattle.rules.specs.Least.{Fitted, own_timer, at-timer}
+use Rattle.rules.proofs.Least as Least
+use Rattle.rules.proofs.Least.{Fitted, own_timer, at-timer}
 use Rattle.words.specs.declared.Found.TheVariants.{At, Nothing}
 use Rattle.words.specs.Search.{first_from}
 use Rattle.words.specs.SearchLaws.{first-at, first-nothing, search-end}

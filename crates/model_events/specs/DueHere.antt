@@ -11,15 +11,15 @@ use Rattle.rules.specs.Table.{Kind, processor, batcher, stopwatch, coupled, Tabl
 use Rattle.rules.specs.Simulation.{State}
 use Rattle.rules.specs.Step.{due}
 use Rattle.rules.specs.Depth.{Fine}
-use Rattle.rules.specs.Least.{own_timer, due-parked}
+use Rattle.rules.proofs.Least.{own_timer, due-parked}
 use Rattle.words.specs.declared.Found.{Found}
 use Rattle.words.specs.Search.{first_from}
 use Rattle.words.specs.SearchLaws.{found-to}
 use Rattle.memory.specs.Words.{timer_in, held_in}
 use Rattle.views.specs.World.{begin_of, states_in, Ready}
-use Rattle.views.specs.Layout.{state-is}
-use Rattle.views.specs.Timers.{own-here}
-use Rattle.views.specs.Parked.{state-none, state-some}
+use Rattle.views.proofs.Layout.{state-is}
+use Rattle.views.proofs.Timers.{own-here}
+use Rattle.views.proofs.Parked.{state-none, state-some}
 use Rattle.model_events.specs.Due.{due-atom, due-coupled}
 
 pub is-coupled-is : (k : Kind) → is_coupled k ≡ true → k ≡ coupled

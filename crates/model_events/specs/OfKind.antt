@@ -10,7 +10,7 @@ use Rattle.table.specs.declared.Kind.TheVariants as kind
 use Rattle.table.specs.Readers.{named}
 use Rattle.memory.specs.Words.{begin_in, width_of, Own}
 use Rattle.views.specs.World.{begin_of, end_of, Laid, Frame}
-use Rattle.views.specs.Frames.{own-frame}
+use Rattle.views.proofs.Frames.{own-frame}
 
 -- ---- what the reader's answer says of the row's kind
 other-kind : {A : Type 0} → ◌≡◌ {A = ℕ} 0 1 → A

@@ -13,8 +13,8 @@ use Rattle.rules.specs.Simulation.{Simulation}
 use Rattle.rules.specs.Valid.{is_valid}
 use Rattle.rules.specs.Calls as Calls
 use Rattle.rules.specs.Calls.{End, Done, Reached, Spent, Refused, Ran, ended}
-use Rattle.rules.specs.Runs.{Valid, valid-of, NotTwenty, step_n-keeps, step_n-valid}
-use Rattle.rules.specs.Refused.{Counted, steps-counted}
+use Rattle.rules.proofs.Runs.{Valid, valid-of, NotTwenty, step_n-keeps, step_n-valid}
+use Rattle.rules.proofs.Refused.{Counted, steps-counted}
 use Rattle.lookup.specs.Inside.{tail_at, models_in, connectors_in, couplings_in, table_in}
 use Rattle.rerunning.specs.Running.{tail_in, sim_of}
 use Rattle.copying.specs.CopiedLaws.{laid-long}

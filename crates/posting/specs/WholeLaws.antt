@@ -7,8 +7,8 @@ use Rattle.std.proofs.Math.Seq.{take-length}
 use Rattle.std.specs.Float.{binary64}
 use Rattle.std.specs.Float.Ieee.{to_bits}
 use Rattle.times.specs.Time.{instant}
-use Rattle.times.specs.Laws.{timer-clear, time-timer}
-use Rattle.times.specs.Patterns.{clear-bits}
+use Rattle.times.proofs.Laws.{timer-clear, time-timer}
+use Rattle.times.proofs.Patterns.{clear-bits}
 use Rattle.rules.specs.declared.Refusal.{Refusal}
 use Rattle.rules.specs.declared.Refusal.TheVariants.{TooLarge, BadRow, BadCoupling, BadState}
 use Rattle.rules.specs.Base.{Outcome, refused, done, ◌>>=◌}
@@ -16,7 +16,7 @@ use Rattle.rules.specs.Table.{Table}
 use Rattle.rules.specs.Intake as Intake
 use Rattle.rules.specs.Intake.{Posted, intake, passed, taken_in}
 use Rattle.rules.specs.Ends.{All}
-use Rattle.rules.specs.Worlds.{MessageFits}
+use Rattle.rules.proofs.Worlds.{MessageFits}
 use Rattle.rules.specs.Decides.{whole_table, intake-exactly}
 use Rattle.rules.specs.Layout.{model_width, connector_width, coupling_width, lent, written_all}
 use Rattle.rules.specs.Simulation.{begun}

@@ -17,7 +17,7 @@ use Rattle.rules.specs.Simulation.{Parked, of_processor, of_batcher, of_stopwatc
 use Rattle.rules.specs.Models.{Fate, Kept, Passed, processor_external, processor_internal, batcher_external, batcher_internal, stopwatch_external, stopwatch_internal}
 use Rattle.rules.specs.Step.{Out, out_at, Happening, came, went, waited, World, noted, becomes, moved, levels, due, External, Internal, external_as, external, park, hand, turn, internal_as, internal, taken, advance, all_after, later, send, root_turn, step_on, one_step}
 use Rattle.rules.specs.Ends.{All, all_any, all-those, Ends, stops, goes, ends-if, ends-bind, ends-each, Whatever, ends-whatever, ends-done}
-use Rattle.rules.specs.Worlds.{world_of}
+use Rattle.rules.proofs.Worlds.{world_of}
 use Rattle.promises.specs.Story.{Event, Accepted, Released, Waited, was_kept, event_of, history, accepted_in, accepted, sent_to}
 use Rattle.promises.specs.Machine.{history-append, accepted-append, if-not, if-so, another-row, this-row}
 

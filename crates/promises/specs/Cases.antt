@@ -18,7 +18,7 @@ use Rattle.rules.specs.Valid.{is_valid}
 use Rattle.rules.specs.Calls.{inject_input, steps, step_n, step, Call, InjectInput, Step, StepN, called, calls}
 use Rattle.rules.specs.Examples.{four, six, ten, row, within, a_batcher, a_processor, link, batch, release, no_batch, job, ending}
 use Rattle.rules.specs.Ends.{All, nil, ◌&◌}
-use Rattle.rules.specs.Runs.{CallFits}
+use Rattle.rules.proofs.Runs.{CallFits}
 use Rattle.promises.specs.Story.{accepted, releases, state_then, Moment, Acceptance, ahead, Leaves, happened, Demand, Within, AcceptsWithRoom}
 use Rattle.promises.specs.Demand3.{begun_fresh, demand-3, of-all}
 

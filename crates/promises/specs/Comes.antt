@@ -15,8 +15,8 @@ use Rattle.rules.specs.Calls.{Call}
 use Rattle.rules.specs.Valid.{is_valid}
 use Rattle.rules.specs.Ends.{All, nil, ◌&◌, all_append, Ends, stops, goes, ends-if, ends-bind, ends-map, Whatever, ends-whatever}
 use Rattle.rules.specs.Depth.{Fine, fine}
-use Rattle.rules.specs.Worlds.{Closed, NotBatcher, after-at}
-use Rattle.rules.specs.Runs.{Valid, valid-of, step-ends, CallFits, Carried, calls-keeps}
+use Rattle.rules.proofs.Worlds.{Closed, NotBatcher, after-at}
+use Rattle.rules.proofs.Runs.{Valid, valid-of, step-ends, CallFits, Carried, calls-keeps}
 use Rattle.promises.specs.Story.{Event, Accepted, Released, Waited, was_kept, contents, event_of, history, accepted_in, releases_in, joined, accepted, released, came_to, held_by, happened, left_by}
 use Rattle.promises.specs.Machine.{Sized, release-splits, history-append, accepted-append, another-row, this-row, in-range, contents-back, row_sized}
 

@@ -3,7 +3,7 @@ use Rattle.std.specs.Prelude.{ℕ, zero, suc, ◌+◌, ◌-◌, ◌/◌, ◌%◌
 use Rattle.std.proofs.Common.{sym, ap, ◌∙◌, subst, inl, inr, append-nil, arith, length-append}
 use Rattle.std.proofs.Math.Seq.{get_or-append_seam}
 use Rattle.times.specs.Time.{is_never}
-use Rattle.times.specs.Laws as law
+use Rattle.times.proofs.Laws as law
 use Rattle.rules.specs.declared.Refusal.{Refusal}
 use Rattle.rules.specs.declared.Refusal.TheVariants.{InvalidModelState, NoQueueRoom}
 use Rattle.rules.specs.declared.BatcherPhase.{BatcherPhase}
@@ -19,8 +19,8 @@ use Rattle.rules.specs.Calls.{post, put, Call}
 use Rattle.rules.specs.Valid.{is_valid}
 use Rattle.rules.specs.Ends.{All, Ends, stops, goes, ends-if, ends-bind, ends-map, ends-refused, Whatever, ends-whatever, ends-done}
 use Rattle.rules.specs.Depth.{Fine, fine}
-use Rattle.rules.specs.Worlds.{world_of}
-use Rattle.rules.specs.Runs.{Valid, valid-of, step-ends, CallFits, Carried, calls-keeps, begun-valid, fresh_at, put-valid, post-valid}
+use Rattle.rules.proofs.Worlds.{world_of}
+use Rattle.rules.proofs.Runs.{Valid, valid-of, step-ends, CallFits, Carried, calls-keeps, begun-valid, fresh_at, put-valid, post-valid}
 use Rattle.promises.specs.Story.{Event, Accepted, history, joined, accepted, releases, released, after_event, state_then, Lawful, Moment, Acceptance, ahead, event_number, place_in_it, Comes, event_at, Leaves, BeginsFresh, CapacityNone, SixElsewhere, happened, left_by, Demand, advances_until, Within, AcceptsWithRoom, Beyond, OfAll}
 use Rattle.promises.specs.Six.{six-elsewhere}
 use Rattle.promises.specs.Machine.{Sized, Shape, Sound, fresh-sound, NoRoom, Took, accept-ends, accept-takes, history-sound, conserved, Goes, goes_in, counts-down, history-append, lawful-split, Lived, Told, this-row, row_sized, lived-sound, ToldIn, told-closed}

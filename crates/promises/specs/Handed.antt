@@ -12,7 +12,7 @@ use Rattle.std.proofs.Math.Dec.{eqb, eqb_refl}
 use Rattle.std.specs.Float.{binary64}
 use Rattle.std.specs.Float.Ieee.{add, le, lt}
 use Rattle.times.specs.Time.{instant, is_never, is_time, is_timer}
-use Rattle.times.specs.Laws as law
+use Rattle.times.proofs.Laws as law
 use Rattle.rules.specs.declared.Refusal.{Refusal}
 use Rattle.rules.specs.declared.Refusal.TheVariants.{NoMessageRoom, BadTime, Idle, NoOutRoom, BadState}
 use Rattle.rules.specs.declared.Message.{Message}
@@ -27,11 +27,11 @@ use Rattle.rules.specs.Calls.{Done, Reached, Spent, Refused, Ran, ended, then_ra
 use Rattle.rules.specs.Ends.{All, nil, ◌&◌, Among, first, later as further, among-those, all-imp, all-those, all_any, all_append, Ends, stops, goes, ends-if, ends-bind, ends-map, ends-both, ends-done, Whatever, ends-whatever, ends-known, ends-each, ends-most}
 use Rattle.rules.specs.Decides.{tells, parent-decides, parentless-decides}
 use Rattle.rules.specs.Depth.{Fine, fine, depth_at, all_in, component-depth, Deep, parentless-deep, by-parent}
-use Rattle.rules.specs.Least.{Fitted, own_timer, among, due-parked, due-component, least-below, least-is-timer}
+use Rattle.rules.proofs.Least.{Fitted, own_timer, among, due-parked, due-component, least-below, least-is-timer}
 use Rattle.rules.specs.Arriving.{Arrives, arriving, atom-other, set_other}
-use Rattle.rules.specs.Worlds.{Good, fitted-set, after-at, fitted-after, advance-ends, later-ends, Gone, external-keeps, internal-keeps, unpark-keeps, turn-keeps, Sent, taken-keeps, root_turn-keeps, world_of}
-use Rattle.rules.specs.Runs.{Valid, valid-of, is-valid, NotTwenty, any-closed, step-ends}
-use Rattle.rules.specs.Idle.{NoneParked, idle-exactly}
+use Rattle.rules.proofs.Worlds.{Good, fitted-set, after-at, fitted-after, advance-ends, later-ends, Gone, external-keeps, internal-keeps, unpark-keeps, turn-keeps, Sent, taken-keeps, root_turn-keeps, world_of}
+use Rattle.rules.proofs.Runs.{Valid, valid-of, is-valid, NotTwenty, any-closed, step-ends}
+use Rattle.rules.proofs.Idle.{NoneParked, idle-exactly}
 use Rattle.promises.specs.HandedOver.{list_of, is_component, comings, handed_to, parked_by, newly, NotItsEvent, HandsOver, AsLeft}
 
 -- a row with something parked is one of the rows

@@ -10,7 +10,7 @@ use Rattle.std.proofs.Math.Dec.{nleb→lt, eqb_refl}
 use Rattle.std.specs.Float.{binary64}
 use Rattle.std.specs.Float.Ieee.{sub, le}
 use Rattle.times.specs.Time.{instant, never, is_time, is_timer}
-use Rattle.times.specs.Laws as law
+use Rattle.times.proofs.Laws as law
 use Rattle.rules.specs.declared.Refusal.{Refusal}
 use Rattle.rules.specs.declared.Refusal.TheVariants.{NoQueueRoom}
 use Rattle.rules.specs.declared.BatcherPhase.{BatcherPhase}
@@ -25,8 +25,8 @@ use Rattle.rules.specs.Models.{Kept, keep, joining, batcher_external, batcher_in
 use Rattle.rules.specs.Step.{Out, out_at, Happening, came, went, waited, World, noted, becomes, after}
 use Rattle.rules.specs.Ends.{All, nil, ◌&◌, Ends, stops, goes, ends-if, ends-bind, ends-map, Whatever, ends-whatever, ends-known}
 use Rattle.rules.specs.Depth.{Fine}
-use Rattle.rules.specs.Least.{own_timer}
-use Rattle.rules.specs.Worlds.{Closed, NotBatcher, after-at}
+use Rattle.rules.proofs.Least.{own_timer}
+use Rattle.rules.proofs.Worlds.{Closed, NotBatcher, after-at}
 use Rattle.promises.specs.Story.{Event, Accepted, Released, Waited, was_kept, contents, event_of, history, accepted_in, releases_in, joined, done_or, after_event, state_after, state_then, LawfulEvent, Lawful, HoldsJob, advances_until, Within}
 
 -- ---- what intake says of a batcher's row

@@ -8,7 +8,7 @@ use Rattle.std.proofs.Math.ListN.{length}
 use Rattle.std.proofs.Math.Dec.{not_T}
 use Rattle.std.specs.Float.Ieee.{lt, le}
 use Rattle.times.specs.Time.{is_time}
-use Rattle.times.specs.Laws as law
+use Rattle.times.proofs.Laws as law
 use Rattle.rules.specs.declared.Refusal.TheVariants.{NoOutRoom}
 use Rattle.rules.specs.declared.Message.{Message}
 use Rattle.rules.specs.Sizes.{is_word}
@@ -18,7 +18,7 @@ use Rattle.rules.specs.Step.{Happening, one_step}
 use Rattle.rules.specs.Valid.{is_valid}
 use Rattle.rules.specs.Calls.{Reached, Ran, ended, then_ran, onward, look, steps_until, step_until}
 use Rattle.rules.specs.Ends.{Ends, goes, ends-map}
-use Rattle.rules.specs.Runs.{Valid, valid-of, step-ends, NotTwenty, any-closed, step_until-valid}
+use Rattle.rules.proofs.Runs.{Valid, valid-of, step-ends, NotTwenty, any-closed, step_until-valid}
 use Rattle.promises.specs.RunOn.{joined, room_left, run_on_after, collected, join-then, less-rows, reached-not, looks, Judged, judge, fine, bad, bad-state-again, until-on}
 
 -- ---- a clock below `early` is below `later`

@@ -21,7 +21,7 @@ use Rattle.rules.specs.Simulation.{Simulation}
 use Rattle.rules.specs.Step.{Happening, one_step}
 use Rattle.rules.specs.Valid.{is_valid}
 use Rattle.rules.specs.Calls.{End, Done, Reached, Spent, Refused, Ran, ended, then_ran, fitting, onward, steps, step_n, look, steps_until, step_until}
-use Rattle.rules.specs.Runs.{step_n-valid, step_until-valid}
+use Rattle.rules.proofs.Runs.{step_n-valid, step_until-valid}
 
 -- ---- two parts of a run as one: "the end state, rows, total steps and answer"
 -- "the answer for the whole is the first part's refusal"; of a first part that was not refused it is the second's

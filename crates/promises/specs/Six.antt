@@ -19,8 +19,8 @@ use Rattle.rules.specs.Valid.{state_fits}
 use Rattle.rules.specs.Ends.{All, Ends, stops, goes, ends-if, ends-bind, ends-map, ends-whatever}
 use Rattle.rules.specs.Depth.{Fine, fine}
 use Rattle.rules.specs.Kept.{Other}
-use Rattle.rules.specs.Worlds.{set_all, Closed, NotBatcher, after-at}
-use Rattle.rules.specs.Runs.{Valid, step-ends, EndsWell, CallFits, Carried, called-keeps, calls-keeps}
+use Rattle.rules.proofs.Worlds.{set_all, Closed, NotBatcher, after-at}
+use Rattle.rules.proofs.Runs.{Valid, step-ends, EndsWell, CallFits, Carried, called-keeps, calls-keeps}
 use Rattle.promises.specs.Story.{CapacityNone, HandedInShort, SixElsewhere, happened, left_by}
 use Rattle.promises.specs.Machine.{Sized, Shape, release-sound, row_sized}
 

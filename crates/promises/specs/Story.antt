@@ -16,7 +16,7 @@ use Rattle.rules.specs.Simulation.{BatcherState, State, of_batcher, Simulation, 
 use Rattle.rules.specs.Models.{Fate, Started, Kept, Dropped, Marked, Asked, Passed, batcher_external, batcher_internal}
 use Rattle.rules.specs.Step.{Out, Happening, came, went, waited}
 use Rattle.rules.specs.Calls.{Refused, Call, called, calls}
-use Rattle.rules.specs.Runs.{CallFits}
+use Rattle.rules.proofs.Runs.{CallFits}
 
 -- ---- the history of one row, read off the log: an external event that kept a job, an internal event with the jobs that it put out, an advance of every timer
 pub data Event : Type 0 where

@@ -9,7 +9,8 @@ use borrow.Author.Tests.{lt-ltb, le-ltb}
 use lib.Ieee.{Float, binary64, of_bits}
 use lib.Ieee.Bits.{is_true}
 use Rattle.times.specs.Time.{is_time}
-use Rattle.times.specs.Answers.{time_of_bits, time-says}
+use Rattle.times.specs.Answers.{time_of_bits}
+use Rattle.times.proofs.AnswerLaws.{time-says}
 use Rattle.times.specs.declared.TimeOf.TheVariants.{Time}
 use Rattle.rules.specs.Sizes.{is_port}
 use Rattle.rules.specs.Intake as Intake

@@ -8,7 +8,7 @@ use Rattle.rules.specs.Table.{Table}
 use Rattle.rules.specs.Simulation.{Simulation}
 use Rattle.rules.specs.Step.{Happening, step_on}
 use Rattle.rules.specs.Ends.{All}
-use Rattle.rules.specs.Worlds.{MessageFits}
+use Rattle.rules.proofs.Worlds.{MessageFits}
 use Rattle.rules.specs.Calls as Calls
 use Rattle.rules.specs.Calls.{Ran, ended, then_ran, look}
 use Rattle.memory.specs.Words.{word_at}

@@ -13,7 +13,7 @@ use Rattle.rules.specs.Table.{Table}
 use Rattle.rules.specs.Simulation.{Simulation}
 use Rattle.rules.specs.Step.{Happening, step_on}
 use Rattle.rules.specs.Ends.{All}
-use Rattle.rules.specs.Worlds.{MessageFits}
+use Rattle.rules.proofs.Worlds.{MessageFits}
 use Rattle.rules.specs.Calls as Calls
 use Rattle.rules.specs.Calls.{Ran, ended, then_ran, onward, fitting, look}
 use Rattle.memory.specs.Words.{word_at}
@@ -29,7 +29,7 @@ use Rattle.stepping.specs.Simulating.{clock_in, active_in, sim_in, Sound, Went}
 use Rattle.rerunning.specs.declared.Next.{Next}
 use Rattle.rerunning.specs.declared.Next.TheVariants as next
 use Rattle.rerunning.specs.Running.{tail_in, Stored, sim_of, reached, Completed, Goes, Arrives, Refuses, Nexts}
-use Rattle.views.specs.Frames.{within-world, within-ready}
+use Rattle.views.proofs.Frames.{within-world, within-ready}
 
 -- ---- what was done is one thing, and is not refused
 abbrev simulation_of : Simulation → Outcome Simulation → Simulation

@@ -9,23 +9,23 @@ use Rattle.std.specs.Float.Ieee.{sub, of_bits, to_bits, eq}
 use Rattle.std.specs.Float.Ieee.Bits.{of_bits-to_bits}
 use Rattle.std.specs.Float.Ieee.Fits.{sub-fits}
 use Rattle.times.specs.Time.{instant, never, is_time, is_timer}
-use Rattle.times.specs.Laws as law
+use Rattle.times.proofs.Laws as law
 use Rattle.rules.specs.Sizes.{is_word}
 use Rattle.rules.specs.Table.{Kind, processor, batcher, stopwatch, coupled, Table, kind_at, is_coupled}
 use Rattle.rules.specs.Simulation.{State, of_processor, of_batcher, of_stopwatch, of_coupled, state_at}
 use Rattle.rules.specs.Step.{after}
 use Rattle.rules.specs.Ends.{All, nil, ◌&◌}
-use Rattle.rules.specs.Least.{Fitted, own_timer, Below}
-use Rattle.rules.specs.Worlds.{after-at, fitted-after}
+use Rattle.rules.proofs.Least.{Fitted, own_timer, Below}
+use Rattle.rules.proofs.Worlds.{after-at, fitted-after}
 use Rattle.words.specs.Queue.{queue_in}
 use Rattle.marks.specs.Jobs.{jobs_in}
 use Rattle.memory.specs.Words.{word_at, place_in, head_at, phase_in, timer_in, held_in, width_of, own_in, Own}
 use Rattle.memory.specs.View.{working_of, batching_of, watching_of, state_in, word_rules, WordsFit}
 use Rattle.memory.specs.Places.{before-own, own_same, outside}
 use Rattle.views.specs.World.{begin_of, end_of, state_of, states_in, Laid, Ready, Frame}
-use Rattle.views.specs.Layout.{head-begin, states-long, state-is}
-use Rattle.views.specs.Frames.{states-are, same-or-apart, own-laid, own-states, own-frame, frame_same, frame_then}
-use Rattle.views.specs.Timers.{head-here, own-timer}
+use Rattle.views.proofs.Layout.{head-begin, states-long, state-is}
+use Rattle.views.proofs.Frames.{states-are, same-or-apart, own-laid, own-states, own-frame, frame_same, frame_then}
+use Rattle.views.proofs.Timers.{head-here, own-timer}
 use Rattle.row_timers.specs.Passing.{Passed}
 
 -- ---- the row i of a kind, its own words from b on, before and after only its timer's word was written

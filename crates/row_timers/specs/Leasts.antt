@@ -6,18 +6,18 @@ use Rattle.std.proofs.Math.Nat.{sub-zero}
 use Rattle.std.specs.Float.{binary64}
 use Rattle.std.specs.Float.Ieee.{of_bits, lt}
 use Rattle.times.specs.Time.{never, is_timer, least_of}
-use Rattle.times.specs.Laws as law
+use Rattle.times.proofs.Laws as law
 use Rattle.rules.specs.Base.{from}
 use Rattle.rules.specs.Table.{Table, kind_at}
 use Rattle.rules.specs.Step.{least, least_timer}
-use Rattle.rules.specs.Least.{own_timer, least-is, fitted-fits}
+use Rattle.rules.proofs.Least.{own_timer, least-is, fitted-fits}
 use Rattle.rules.specs.Depth.{passed-again}
 use Rattle.memory.specs.Words.{timer_in, held_in}
 use Rattle.lookup.specs.Inside.{Inside, table_in, posted_in}
 use Rattle.views.specs.World.{begin_of, state_of, states_in, Ready}
-use Rattle.views.specs.Layout.{row_of}
-use Rattle.views.specs.Timers.{own-timer}
-use Rattle.views.specs.Parked.{counts, own-counts}
+use Rattle.views.proofs.Layout.{row_of}
+use Rattle.views.proofs.Timers.{own-timer}
+use Rattle.views.proofs.Parked.{counts, own-counts}
 
 -- ---- a timer that never runs out changes no least
 last-never : (x : Float) → T (is_timer x) → least_of x never ≡ x

@@ -10,7 +10,7 @@ use Rattle.std.specs.Float.Ieee.Fits.{and_i, and_l, and_r, eq→eqb}
 use Rattle.std.specs.Float.{binary64}
 use Rattle.std.specs.Float.Ieee.{fits}
 use Rattle.times.specs.Time.{instant, never, is_never, is_time, is_timer}
-use Rattle.times.specs.Laws as law
+use Rattle.times.proofs.Laws as law
 use Rattle.rules.specs.declared.ProcessorPhase.{ProcessorPhase}
 use Rattle.rules.specs.declared.ProcessorPhase.TheVariants as working
 use Rattle.rules.specs.declared.Processor.{Processor}

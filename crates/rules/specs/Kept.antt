@@ -8,7 +8,7 @@ use Rattle.std.proofs.Math.ListN.{length, take, drop, length-drop}
 use Rattle.std.proofs.lemmas.List.{length-map}
 use Rattle.std.proofs.Math.Dec.{T, leb→le, le→leb, nleb→lt, ltb→lt, lt→ltb, eqb_refl, T_not, not_T}
 use Rattle.times.specs.Time.{instant, never, is_time, is_timer}
-use Rattle.times.specs.Laws as law
+use Rattle.times.proofs.Laws as law
 use Rattle.rules.specs.declared.Refusal.{Refusal}
 use Rattle.rules.specs.declared.Refusal.TheVariants.{TooLarge, BadRow, BadCoupling, ModelNotFound, InvalidMessage, InvalidModelState, NoQueueRoom, NoMessageRoom, NoServiceTime, BadTime, ClockOverflow, Idle, NoOutRoom, BadBlock, BadState}
 use Rattle.rules.specs.declared.ProcessorPhase.{ProcessorPhase}

@@ -22,15 +22,9 @@ pub mod PinsCalls
 pub mod Ends
 -- each test decides what its sentence says; each refusal is given exactly when its row says
 pub mod Decides
-pub mod Exactly
 -- what refusal 20 asks is kept by every call
 pub mod Depth
 pub mod Arriving
-pub mod Least
 pub mod Kept
-pub mod Worlds
-pub mod Runs
 -- theorems on the whole
 pub mod Ghost
-pub mod Refused
-pub mod Idle

@@ -7,7 +7,7 @@ use Rattle.std.specs.Float.{binary64}
 use Rattle.std.specs.Float.Ieee.{of_bits, to_bits}
 use Rattle.std.specs.Float.Ieee.Bits.{of_bits-to_bits}
 use Rattle.times.specs.Time.{is_time}
-use Rattle.times.specs.Laws.{time-fits}
+use Rattle.times.proofs.Laws.{time-fits}
 use Rattle.rules.specs.declared.Message.{Message}
 use Rattle.rules.specs.declared.Refusal.TheVariants.{NoMessageRoom}
 use Rattle.rules.specs.Base.{Outcome, refused, done, ◌>>=◌, each, those, from}

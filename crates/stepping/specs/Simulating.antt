@@ -11,7 +11,7 @@ use Rattle.rules.specs.Table.{Table, parentless}
 use Rattle.rules.specs.Simulation.{Simulation}
 use Rattle.rules.specs.Step.{Happening, World, root_turn, step_on}
 use Rattle.rules.specs.Ends.{All}
-use Rattle.rules.specs.Worlds.{MessageFits}
+use Rattle.rules.proofs.Worlds.{MessageFits}
 use Rattle.memory.specs.Words.{word_at, place_in}
 use Rattle.views.specs.World.{end_of, states_in, world_in, Ready}
 use Rattle.views.specs.Messages.{messages_in}

@@ -9,7 +9,7 @@ use Rattle.std.specs.Float.Ieee.{add, eq, of_bits, to_bits}
 use Rattle.std.specs.Float.Ieee.Bits.{of_bits-to_bits, is_true}
 use Rattle.times.specs.Time.{instant, never, is_never, is_time, is_timer}
 use Rattle.times.specs.Order.{same_test}
-use Rattle.times.specs.Laws.{later-instant, never-is, never-timer, timer-split, timers-eq, instant-time, time-timer, time-fits, timers-zero, timers-instant}
+use Rattle.times.proofs.Laws.{later-instant, never-is, never-timer, timer-split, timers-eq, instant-time, time-timer, time-fits, timers-zero, timers-instant}
 use Rattle.rules.specs.declared.Refusal.{Refusal}
 use Rattle.rules.specs.declared.Refusal.TheVariants.{Idle, ClockOverflow}
 use Rattle.rules.specs.declared.Message.{Message}
@@ -20,14 +20,14 @@ use Rattle.rules.specs.Simulation.{Simulation, state_at}
 use Rattle.rules.specs.Step.{Happening, waited, World, taken, least_timer, advance, after, all_after, later, step_on}
 use Rattle.rules.specs.Ends.{Ends, goes}
 use Rattle.rules.specs.Depth.{Fine}
-use Rattle.rules.specs.Least.{fits-timer, own_timer}
-use Rattle.rules.specs.Worlds.{Stepped, step_on-keeps}
-use Rattle.rules.specs.Runs.{NotTwenty, any-closed}
-use Rattle.rules.specs.Exactly.{taken_none}
+use Rattle.rules.proofs.Least.{fits-timer, own_timer}
+use Rattle.rules.proofs.Worlds.{Stepped, step_on-keeps}
+use Rattle.rules.proofs.Runs.{NotTwenty, any-closed}
+use Rattle.rules.proofs.Exactly.{taken_none}
 use Rattle.memory.specs.declared.Answer.{Answer}
 use Rattle.memory.specs.Words.{word_at, place_in}
 use Rattle.views.specs.World.{end_of, states_in, world_in, Ready, Moves, Does}
-use Rattle.views.specs.Frames.{far-world, far-ready}
+use Rattle.views.proofs.Frames.{far-world, far-ready}
 use Rattle.views.specs.Messages.{messages_in, Joins}
 use Rattle.views.specs.MessageLaws.{messages-same, messages-long}
 use Rattle.row_timers.specs.Passing.{Passed}

@@ -9,17 +9,18 @@ use Rattle.std.specs.Float.Ieee.{of_bits, to_bits}
 use Rattle.std.specs.Float.Ieee.Bits.{is_true}
 use Rattle.std.specs.Float.Ieee.Fits.{and_l, and_r}
 use Rattle.times.specs.Time.{is_time, is_timer}
-use Rattle.times.specs.Laws.{timer-split, timer-clear, time-timer}
-use Rattle.times.specs.Patterns.{clear-bits}
-use Rattle.times.specs.Answers.{time_of_bits, bad-says, bits-kept}
+use Rattle.times.proofs.Laws.{timer-split, timer-clear, time-timer}
+use Rattle.times.proofs.Patterns.{clear-bits}
+use Rattle.times.specs.Answers.{time_of_bits}
+use Rattle.times.proofs.AnswerLaws.{bad-says, bits-kept}
 use Rattle.times.specs.declared.TimeOf.{TimeOf}
 use Rattle.times.specs.declared.TimeOf.TheVariants.{Time, Bad}
 use Rattle.rules.specs.Base.{every, from}
 use Rattle.rules.specs.Table.{Kind, processor, batcher, stopwatch, coupled, Table, kind_at}
 use Rattle.rules.specs.Simulation.{Marks, State}
 use Rattle.rules.specs.Ends.{if-both, All, nil, ◌&◌, all_map, every-all}
-use Rattle.rules.specs.Least.{fits-timer}
-use Rattle.rules.specs.Worlds.{MessageFits}
+use Rattle.rules.proofs.Least.{fits-timer}
+use Rattle.rules.proofs.Worlds.{MessageFits}
 use Rattle.words.specs.Queue.{queue_in, unused_clear}
 use Rattle.words.specs.QueueLaws.{queue-length}
 use Rattle.words.specs.Lists.{part_length, length-lines, map-from}
@@ -29,7 +30,7 @@ use Rattle.memory.specs.Words.{word_at, head_at, phase_in, timer_in, held_in, be
 use Rattle.memory.specs.View.{working_of, batching_of, watching_of, working_number, batching_number, watching_number, parked_of, state_in, word_rules, Row}
 use Rattle.lookup.specs.InsideLaws.{place-keeps}
 use Rattle.views.specs.World.{begin_of, end_of, state_of, states_in, Ready}
-use Rattle.views.specs.Layout.{states-long, row_of, head-begin, begin-end}
+use Rattle.views.proofs.Layout.{states-long, row_of, head-begin, begin-end}
 use Rattle.views.specs.MessageLaws.{messages-long}
 use Rattle.copying.specs.CopiedLaws.{messages-written}
 use Rattle.stepping.specs.Simulating.{clock_in, active_in, sim_in}

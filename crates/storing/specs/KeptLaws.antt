@@ -6,7 +6,7 @@ use Rattle.rules.specs.Table.{Table}
 use Rattle.rules.specs.Simulation.{Simulation}
 use Rattle.rules.specs.Valid.{is_valid}
 use Rattle.rules.specs.Depth.{passed-again}
-use Rattle.rules.specs.Runs.{is-valid}
+use Rattle.rules.proofs.Runs.{is-valid}
 use Rattle.memory.specs.Words.{word_at}
 use Rattle.lookup.specs.Inside.{tail_at, models_in, connectors_in, couplings_in, posted_in, table_in}
 use Rattle.views.specs.World.{end_of}

@@ -12,8 +12,8 @@ use Rattle.std.specs.Float.Ieee.{binary64, of_bits, to_bits}
 use Rattle.std.specs.Float.Ieee.Bits.{of_bits-to_bits}
 use Rattle.std.specs.Float.Ieee.Fits.{and_i}
 use Rattle.times.specs.Time.{never, is_time, is_timer}
-use Rattle.times.specs.Laws.{time-fits, time-timer, timer-fits, never-timer}
-use Rattle.times.specs.Answers.{bits_back}
+use Rattle.times.proofs.Laws.{time-fits, time-timer, timer-fits, never-timer}
+use Rattle.times.proofs.AnswerLaws.{bits_back}
 use Rattle.rules.specs.declared.Message.{Message}
 use Rattle.rules.specs.declared.ProcessorPhase.{ProcessorPhase}
 use Rattle.rules.specs.declared.ProcessorPhase.TheVariants as working
@@ -31,9 +31,9 @@ use Rattle.rules.specs.Valid as valid
 use Rattle.rules.specs.Valid.{marks_rules, differ, names, stopwatch_rules, is_valid}
 use Rattle.rules.specs.Ends.{All, nil, ◌&◌, every-all, parts, whole_of}
 use Rattle.rules.specs.Decides.{tells, passes, timer-decides, stopwatch-decides, message-decides, ParkedKeeps, StateKeeps, of-processor, of-batcher, of-stopwatch, of-coupled, state-decides, whole_table, intake-exactly}
-use Rattle.rules.specs.Least.{Fitted}
-use Rattle.rules.specs.Worlds.{MessageFits}
-use Rattle.rules.specs.Runs.{Valid, valid-of}
+use Rattle.rules.proofs.Least.{Fitted}
+use Rattle.rules.proofs.Worlds.{MessageFits}
+use Rattle.rules.proofs.Runs.{Valid, valid-of}
 use Rattle.words.specs.Queue.{queue_in, unused_clear}
 use Rattle.words.specs.Lists.{get_d-from}
 use Rattle.marks.specs.Jobs.{time_in, mark_in, job_at, jobs_in, whole_in, mark_fits, words_fit, fit_in}
@@ -43,7 +43,7 @@ use Rattle.memory.specs.Words.{word_at, head_at, phase_in, timer_in, held_in, wi
 use Rattle.memory.specs.View.{working_of, batching_of, watching_of, working_number, batching_number, watching_number, parked_of, state_in, word_rules, WordsFit}
 use Rattle.views.specs.World.{widths_of, begin_of, end_of, states_in, Ready}
 use Rattle.views.specs.Messages.{message_in}
-use Rattle.views.specs.Frames.{states-are}
+use Rattle.views.proofs.Frames.{states-are}
 use Rattle.copying.specs.CopiedLaws.{written-long}
 use Rattle.stepping.specs.Simulating.{clock_in, active_in, sim_in}
 use Rattle.lookup.specs.Inside.{connectors_at, couplings_at, tail_at, models_in, connectors_in, couplings_in, posted_in, table_in, Inside}

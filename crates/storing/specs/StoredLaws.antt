@@ -13,8 +13,8 @@ use Rattle.rules.specs.Simulation.{Simulation}
 use Rattle.rules.specs.Ends.{All, nil, ◌&◌, parts, whole_of}
 use Rattle.rules.specs.Decides.{whole_table, intake-exactly}
 use Rattle.rules.specs.Depth.{passed-again}
-use Rattle.rules.specs.Worlds.{MessageFits}
-use Rattle.rules.specs.Runs.{Valid, valid-of, is-valid}
+use Rattle.rules.proofs.Worlds.{MessageFits}
+use Rattle.rules.proofs.Runs.{Valid, valid-of, is-valid}
 use Rattle.words.specs.Lists.{part_length}
 use Rattle.marks.specs.MarkingLaws.{every-from}
 use Rattle.memory.specs.Words.{word_at, phase_in, timer_in, held_in, begin_in, width_of, own_in}

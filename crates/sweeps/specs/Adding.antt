@@ -8,7 +8,7 @@ use Rattle.words.specs.declared.Found.TheVariants.{At, Nothing}
 use Rattle.words.specs.Search.{first_from}
 use Rattle.memory.specs.declared.Put.TheVariants as put
 use Rattle.views.specs.World.{world_in, Ready, Frame}
-use Rattle.views.specs.Frames.{frame_same, frame_then}
+use Rattle.views.proofs.Frames.{frame_same, frame_then}
 use Rattle.views.specs.Messages.{Joins, Joined}
 use Rattle.sweeps.specs.Sweeps.{At-log, Leads, Onward, onward-start, onward-on, onward_stops, onward-none, onward-end}
 

@@ -10,7 +10,7 @@ use Rattle.words.specs.Search.{first_from}
 use Rattle.memory.specs.declared.Answer.{Answer}
 use Rattle.memory.specs.declared.Answer.TheVariants as answer
 use Rattle.views.specs.World.{world_in, Ready, Frame, Moves, Does}
-use Rattle.views.specs.Frames.{frame_same, frame_then}
+use Rattle.views.proofs.Frames.{frame_same, frame_then}
 use Rattle.sweeps.specs.Sweeps.{Leads, Onward, onward-start, onward-on, onward_stops, onward-none, onward-end, onward-skip}
 
 -- an event in place, as the sweeps have it

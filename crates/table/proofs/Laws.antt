@@ -20,7 +20,8 @@ use Rattle.rules.specs.Sizes.{is_port, is_word}
 use Rattle.rules.specs.declared.Metric.{Metric}
 use Rattle.rules.specs.declared.Metric.TheVariants.{Minimum, Maximum}
 use Rattle.times.specs.Time.{is_time}
-use Rattle.times.specs.Answers.{time_of_bits, time-says}
+use Rattle.times.specs.Answers.{time_of_bits}
+use Rattle.times.proofs.AnswerLaws.{time-says}
 use Rattle.times.specs.declared.TimeOf.TheVariants.{Time}
 use Rattle.rules.specs.Base.{hold, some_of}
 use Rattle.rules.specs.Table as Table

@@ -5,7 +5,7 @@ use Rattle.rules.specs.Base.{Outcome, done, each, those}
 use Rattle.rules.specs.Table.{Table, id_at}
 use Rattle.rules.specs.Step.{World, levels, external}
 use Rattle.rules.specs.Ends.{All}
-use Rattle.rules.specs.Worlds.{MessageFits}
+use Rattle.rules.proofs.Worlds.{MessageFits}
 use Rattle.views.specs.World.{end_of}
 use Rattle.views.specs.Messages.{message_in, messages_in}
 use Rattle.sweeps.specs.Skips.{stop_from}

@@ -11,7 +11,7 @@ use Rattle.rules.specs.Step.{World, levels, external}
 use Rattle.rules.specs.Valid.{message_rules}
 use Rattle.rules.specs.Ends.{All, nil, ◌&◌, parts}
 use Rattle.rules.specs.Depth.{Deep, parentless-deep}
-use Rattle.rules.specs.Worlds.{MessageFits}
+use Rattle.rules.proofs.Worlds.{MessageFits}
 use Rattle.words.specs.declared.Found.TheVariants.{At}
 use Rattle.words.specs.Search.{first_from}
 use Rattle.words.specs.SearchLaws.{search-hit}
@@ -23,7 +23,7 @@ use Rattle.memory.specs.declared.Answer.{Answer}
 use Rattle.memory.specs.declared.Answer.TheVariants as answer
 use Rattle.views.specs.World.{end_of, Ready, Frame, Moves, Does}
 use Rattle.views.specs.Messages.{message_in, messages_in}
-use Rattle.views.specs.Frames.{frame_same}
+use Rattle.views.proofs.Frames.{frame_same}
 use Rattle.sweeps.specs.Loops.{all_of, stays, does-as, Going, going_start, going_on, going-skip, going_end}
 use Rattle.sweeps.specs.Skips.{stop_from, stop-over}
 use Rattle.taking.specs.Taking.{takes_one, takes_all, is_for, is_addressed, Active}

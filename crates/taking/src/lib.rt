@@ -5,7 +5,7 @@ ghost use Rattle.std.specs.Prelude.{◌≡◌, ◌+◌, ◌-◌, ◌≤◌, ◌<
 ghost use Rattle.rules.specs.Step as Step;
 ghost use Rattle.rules.specs.Ends.{All};
 ghost use Rattle.rules.specs.Depth.{Deep};
-ghost use Rattle.rules.specs.Worlds.{MessageFits};
+ghost use Rattle.rules.proofs.Worlds.{MessageFits};
 ghost use Rattle.lookup.specs.Inside.{Inside, table_in};
 ghost use Rattle.views.specs.World.{end_of, Frame, Does};
 ghost use Rattle.views.specs.Messages.{message_in, messages_in};

@@ -2,8 +2,5 @@ pub mod Time
 pub mod Order
 pub mod Rounded
 pub mod Apart
-pub mod Laws
-pub mod Patterns
-pub mod Whole
 pub mod Answers
 pub mod Examples

@@ -21,10 +21,10 @@ use Rattle.memory.specs.declared.Answer.TheVariants as answer
 use Rattle.memory.specs.Words.{head_at, held_in, begin_in}
 use Rattle.memory.specs.View.{parked_in}
 use Rattle.views.specs.World.{begin_of, Frame, Does}
-use Rattle.views.specs.Frames.{frame_then}
+use Rattle.views.proofs.Frames.{frame_then}
 use Rattle.sweeps.specs.Loops.{all_of, Going, going_start, going_on, going-stops, going-none, going_end}
 use Rattle.model_events.specs.Events.{Event}
-use Rattle.views.specs.Timers.{head-here}
+use Rattle.views.proofs.Timers.{head-here}
 use Rattle.unparking.specs.Unparking.{parked_at, is_for, handed, takes}
 use Rattle.unparking.specs.UnparkingLaws.{handed-leaves, list-stays, held-few, own_room, takes-does, same_at, same-found}
 

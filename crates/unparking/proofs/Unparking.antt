@@ -24,7 +24,7 @@ use Rattle.memory.specs.declared.Answer.{Answer}
 use Rattle.memory.specs.declared.Answer.TheVariants as answer
 use Rattle.memory.specs.View.{parked_in}
 use Rattle.views.specs.World.{begin_of, Frame, Does}
-use Rattle.views.specs.Frames.{frame_then}
+use Rattle.views.proofs.Frames.{frame_then}
 use Rattle.sweeps.specs.Loops.{all_of, Going, going_start, going_on, going-stops, going-none, going_end}
 use Rattle.model_events.specs.Events.{Event}
 use Rattle.model_events.specs.DueHere.{is_one, found-next}

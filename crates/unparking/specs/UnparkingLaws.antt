@@ -16,8 +16,8 @@ use Rattle.memory.specs.declared.Answer.{Answer}
 use Rattle.memory.specs.Words.{held_in, own_in}
 use Rattle.memory.specs.View.{parked_of, parked_in, state_in, Row}
 use Rattle.views.specs.World.{begin_of, state_of, world_in, Ready, Moves, Does}
-use Rattle.views.specs.Layout.{state-is}
-use Rattle.views.specs.Parked.{few-held, held-length, row-coupled}
+use Rattle.views.proofs.Layout.{state-is}
+use Rattle.views.proofs.Parked.{few-held, held-length, row-coupled}
 use Rattle.sweeps.specs.Loops.{all_of, does-as}
 use Rattle.model_events.specs.DueHere.{is_one, components-all}
 use Rattle.unparking.specs.Unparking.{parked_at, is_for, handed, takes}

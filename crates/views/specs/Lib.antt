@@ -1,9 +1,4 @@
 -- From the words of a simulation's changing part to the rules' world, and the laws of it.
 pub mod World
 pub mod Messages
-pub mod Layout
-pub mod Frames
-pub mod Lifts
-pub mod Timers
-pub mod Parked
 pub mod MessageLaws

@@ -5,7 +5,7 @@ use Rattle.rules.specs.Sizes.{most_out}
 use Rattle.rules.specs.Table.{Row, Table, kind_at}
 use Rattle.rules.specs.Simulation.{State}
 use Rattle.rules.specs.Step.{Out, Happening, World}
-use Rattle.rules.specs.Worlds.{Good}
+use Rattle.rules.proofs.Worlds.{Good}
 use Rattle.memory.specs.declared.Answer.{Answer}
 use Rattle.memory.specs.declared.Answer.TheVariants as answer
 use Rattle.memory.specs.declared.Put.{Put}

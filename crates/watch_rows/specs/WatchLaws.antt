@@ -6,7 +6,7 @@ use Rattle.std.specs.Float.{binary64}
 use Rattle.std.specs.Float.Ieee.{of_bits, to_bits}
 use Rattle.std.specs.Float.Ieee.Bits.{is_true, of_bits-to_bits}
 use Rattle.times.specs.Time.{instant, never, is_time, is_timer}
-use Rattle.times.specs.Laws.{timer-fits, time-timer, instant-time, never-timer}
+use Rattle.times.proofs.Laws.{timer-fits, time-timer, instant-time, never-timer}
 use Rattle.rules.specs.declared.Refusal.{Refusal}
 use Rattle.rules.specs.declared.Refusal.TheVariants.{InvalidMessage}
 use Rattle.rules.specs.declared.Stopwatch.{Stopwatch}
@@ -20,7 +20,7 @@ use Rattle.rules.specs.Sizes.{most_jobs}
 use Rattle.rules.specs.Step.{Out, out_at}
 use Rattle.rules.specs.Valid.{stopwatch_rules}
 use Rattle.rules.specs.Ends.{All, nil, ◌&◌, parts}
-use Rattle.rules.specs.Least.{fits-timer}
+use Rattle.rules.proofs.Least.{fits-timer}
 use Rattle.rules.specs.Kept as Kept
 use Rattle.marks.specs.declared.Mark.{Mark}
 use Rattle.marks.specs.declared.Mark.TheVariants.{Start, Stop}

@@ -6,7 +6,7 @@ use native.Mathlib.Omega.{arith}
 use lib.ListN.{length, length-drop}
 use Rattle.rules.specs.Layout.{laid_down}
 use Rattle.rules.specs.Ends.{All}
-use Rattle.rules.specs.Worlds.{MessageFits}
+use Rattle.rules.proofs.Worlds.{MessageFits}
 use Rattle.memory.specs.Words.{word_at}
 use Rattle.lookup.specs.Inside.{tail_at, table_in}
 use Rattle.views.specs.World.{end_of, Laid}

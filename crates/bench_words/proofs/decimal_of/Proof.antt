@@ -5,7 +5,7 @@ use mathlib.Core.List.{List, ◌++◌}
 use native.Mathlib.Omega.{arith}
 use lib.ListN.{length, take, drop}
 use lib.Ieee.{binary64, div, to_bits}
-use Rattle.times.specs.Whole.{tick}
+use Rattle.times.proofs.Whole.{tick}
 use Rattle.bench_words.specs.Numbers.{over_tens, nines}
 use Rattle.bench_words.specs.declared.Number.TheVariants.{Is}
 use Rattle.bench_words.specs.NumbersLaws.{numeral-most, whole-fits}

@@ -3,7 +3,7 @@ use mathlib.Core.Path.{sym, ap, ◌∙◌}
 use Prim.Native.Nat.{ℕ, ◌-◌, ◌*◌, ◌/◌}
 use native.Mathlib.Omega.{arith}
 use borrow.Author.Rules.{rules}
-use Rattle.times.specs.Patterns.{leading}
+use Rattle.times.proofs.Patterns.{leading}
 use Rattle.decimals.specs.Decimal.{placed}
 use Rattle.decimals.specs.Laws.{placed-whole}
 use Rattle.decimals.proofs.Fields.{digits, small-field, whole-field, placed-field, product-fits}

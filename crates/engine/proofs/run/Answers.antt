@@ -6,7 +6,7 @@ use native.Mathlib.Omega.{arith}
 use Rattle.rules.specs.declared.Message.{Message}
 use Rattle.rules.specs.Ends.{All}
 use Rattle.rules.specs.Layout.{room_in}
-use Rattle.rules.specs.Worlds.{MessageFits}
+use Rattle.rules.proofs.Worlds.{MessageFits}
 use Rattle.lookup.specs.Inside.{table_in}
 use Rattle.views.specs.Messages.{messages_in}
 use Rattle.stepping.specs.Simulating.{active_in}

@@ -1,7 +1,7 @@
 -- `handing::hand_all` meets its contract. The loop: what is left to hand on, from the memory reached, is what was to be handed on; the messages stand where no call writes. Assumes nothing.
 use Prim.Native.Nat.{◌+◌}
 use native.Mathlib.Omega.{arith}
-use Rattle.views.specs.Frames.{frame_then}
+use Rattle.views.proofs.Frames.{frame_then}
 use Rattle.lookup.specs.Inside.{table_in}
 use Rattle.handing.proofs.Hands.{handing-start, handing-on, handing-stops, handing-end}
 use Rattle.handing.proofs.hand_all.Goals as goal

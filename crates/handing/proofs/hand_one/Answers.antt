@@ -5,7 +5,7 @@ use Prim.Native.Nat.{ℕ, ◌+◌}
 use Rattle.rules.specs.Step.{out_at}
 use Rattle.memory.specs.declared.Answer.{Answer}
 use Rattle.views.specs.World.{Does}
-use Rattle.views.specs.Frames.{frame-none}
+use Rattle.views.proofs.Frames.{frame-none}
 use Rattle.lookup.specs.Inside.{table_in}
 use Rattle.handing.specs.Handing.{park_from, outs_from, Fills}
 use Rattle.handing.proofs.Hands.{hand-stops, hand-puts, hand-frame}

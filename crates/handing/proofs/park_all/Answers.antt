@@ -4,7 +4,7 @@ use native.Mathlib.Omega.{arith}
 use lib.ListN.{length}
 use Rattle.rules.specs.Base.{done}
 use Rattle.selection.specs.Selected.{sweep-bounds}
-use Rattle.views.specs.Frames.{frame_then}
+use Rattle.views.proofs.Frames.{frame_then}
 use Rattle.lookup.specs.Inside.{table_in}
 use Rattle.lookup.specs.InsideLaws.{sizes-in}
 use Rattle.sweeps.specs.Loops.{going_start, going_on, going-stops, going-none, going_end}

@@ -1,6 +1,6 @@
 -- `holding::is_time` meets its contract: a time by its bits. Assumes nothing.
 use mathlib.Core.Path.{sym}
-use Rattle.times.specs.Patterns.{time-bits}
+use Rattle.times.proofs.Patterns.{time-bits}
 use Rattle.holding.proofs.is_time.Statement.{statement}
 use Rattle.holding.proofs.is_time.Tie as tie
 

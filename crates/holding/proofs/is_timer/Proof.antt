@@ -2,7 +2,7 @@
 use mathlib.Core.Path.{sym, ap, ◌∙◌}
 use mathlib.Core.Bool.{Bool, ◌||◌}
 use lib.Dec.{eqb}
-use Rattle.times.specs.Patterns.{infinite, time-bits, timer-bits}
+use Rattle.times.proofs.Patterns.{infinite, time-bits, timer-bits}
 use borrow.Author.Rules.{rules}
 use Rattle.holding.proofs.is_timer.Statement.{statement}
 use Rattle.holding.proofs.is_timer.Tie as tie

@@ -18,8 +18,8 @@ use Rattle.memory.specs.View.{outs_in, parked_in}
 use Rattle.lookup.specs.Inside.{table_in}
 use Rattle.lookup.specs.InsideLaws.{sizes-in, in-components}
 use Rattle.views.specs.World.{begin_of, world_in, Does, Gives}
-use Rattle.views.specs.Frames.{frame_same, frame_then, frame-wider, frame-none, frame-to}
-use Rattle.views.specs.Lifts.{row-kind}
+use Rattle.views.proofs.Frames.{frame_same, frame_then, frame-wider, frame-none, frame-to}
+use Rattle.views.proofs.Lifts.{row-kind}
 use Rattle.views.specs.Messages.{Hands}
 use Rattle.sweeps.specs.Adding.{adding-start, adding-on, adding-stops, adding-none, adding-end}
 use Rattle.model_events.specs.OfKind.{frame-kind}

@@ -8,7 +8,7 @@ use lib.ListN.{length}
 use lib.Dec.{T, lt→ltb}
 use lib.Ieee.{Float}
 use Rattle.times.specs.Time.{is_time, is_timer}
-use Rattle.times.specs.Laws.{never-timer, time-timer}
+use Rattle.times.proofs.Laws.{never-timer, time-timer}
 use Rattle.rules.specs.Sizes.{is_word}
 use Rattle.rules.specs.Layout.{room_in}
 use Rattle.lent_runs.specs.Reported.{Fits}

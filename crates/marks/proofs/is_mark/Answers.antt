@@ -1,6 +1,6 @@
 -- `marks::is_mark` meets its contract: what `timer_of_bits` answers says whether the word is a timer's. Assumes nothing.
 use Rattle.std.proofs.Common.{sym, ◌∙◌}
-use Rattle.times.specs.Answers.{no-timer-says}
+use Rattle.times.proofs.AnswerLaws.{no-timer-says}
 use Rattle.marks.specs.SweepLaws.{timer-fits}
 use Rattle.marks.proofs.is_mark.Goals as goal
 

@@ -1,7 +1,7 @@
 -- `marks::total_of` meets its contract. The loop's invariant: the total so far, with the rest added, is the total of all. Assumes nothing.
 use Rattle.std.proofs.Common.{sym, ◌∙◌, rules}
 use lib.Ieee.{of_bits}
-use Rattle.times.specs.Laws.{time-fits, instant-time}
+use Rattle.times.proofs.Laws.{time-fits, instant-time}
 use Rattle.times.specs.Time.{instant}
 use Rattle.marks.specs.SweepLaws.{added-low, begun, total-end, total-next, turn}
 use Rattle.marks.specs.Sweeps.{total_from, no_total, added_at}

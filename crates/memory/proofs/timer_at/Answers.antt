@@ -5,7 +5,7 @@ use lib.Dec.{T}
 use lib.Ieee.{binary64, of_bits}
 use lib.Ieee.Bits.{nan_bits_is}
 use Rattle.times.specs.Order.{clear-no-nan}
-use Rattle.times.specs.Laws.{timer-clear}
+use Rattle.times.proofs.Laws.{timer-clear}
 use Rattle.memory.specs.Words.{timer_in}
 use Rattle.memory.proofs.timer_at.Goals as goal
 

@@ -12,7 +12,7 @@ use Rattle.selection.specs.Selected.{sweep-bounds}
 use Rattle.lookup.specs.InsideLaws.{sizes-in, coupling-fits}
 use Rattle.lookup.specs.Inside.{table_in, couplings_in}
 use Rattle.views.specs.World.{world_in, Does}
-use Rattle.views.specs.Frames.{frame_same, frame_then}
+use Rattle.views.proofs.Frames.{frame_same, frame_then}
 use Rattle.memory.specs.declared.Answer.{Answer}
 use Rattle.memory.specs.declared.Answer.TheVariants.{Done, Refused}
 use Rattle.sweeps.specs.Loops.{going_start, going_on, going-stops, going-none, going_end}

@@ -9,7 +9,7 @@ use Rattle.selection.specs.Selected.{sweep-bounds}
 use Rattle.lookup.specs.Inside.{table_in}
 use Rattle.lookup.specs.InsideLaws.{fine-in, sizes-in}
 use Rattle.views.specs.World.{states_in}
-use Rattle.views.specs.Timers.{head-here, own-timer, timer-here}
+use Rattle.views.proofs.Timers.{head-here, own-timer, timer-here}
 use Rattle.model_events.specs.Due.{some-on, some-none, some_end, due-none}
 use Rattle.model_events.specs.DueHere.{is_one, components_from, found-next, due-here, due-held, due-inside}
 use Prim.Native.Nat.{ℕ}

@@ -18,7 +18,7 @@ use Rattle.memory.specs.Atoms.{atom_external, Took}
 use Rattle.lookup.specs.Inside.{table_in}
 use Rattle.lookup.specs.InsideLaws.{fine-in}
 use Rattle.views.specs.World.{Does, Frame}
-use Rattle.views.specs.Lifts.{does-kind, row-kind}
+use Rattle.views.proofs.Lifts.{does-kind, row-kind}
 use Rattle.model_events.specs.OfKind.{is-processor, is-batcher, is-stopwatch, no-coupled, no-broken, frame-kind}
 use Rattle.model_events.proofs.atom_external.Goals as goal
 

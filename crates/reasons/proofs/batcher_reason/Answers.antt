@@ -1,7 +1,7 @@
 -- `reasons::batcher_reason` meets its contract: the tests in their order. Assumes nothing.
 use mathlib.Core.Path.{sym, ◌∙◌}
 use borrow.Author.Tests.{le-leb, lt-leb}
-use Rattle.times.specs.Answers.{bad-says}
+use Rattle.times.proofs.AnswerLaws.{bad-says}
 use Rattle.reasons.specs.Reasons.{batcher_reason}
 use Rattle.reasons.proofs.Laws.{time-read}
 use Rattle.reasons.proofs.batcher_reason.Goals as goal

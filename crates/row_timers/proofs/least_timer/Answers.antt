@@ -6,11 +6,11 @@ use lib.ListN.{length}
 use lib.Dec.{T}
 use lib.Ieee.{Float, binary64, of_bits, lt}
 use Rattle.times.specs.Time.{is_timer, least_of}
-use Rattle.times.specs.Laws.{never-timer}
+use Rattle.times.proofs.Laws.{never-timer}
 use Rattle.memory.specs.Words.{timer_in}
 use Rattle.lookup.specs.Inside.{table_in}
 use Rattle.lookup.specs.InsideLaws.{sizes-in}
-use Rattle.views.specs.Timers.{head-here, own-timer}
+use Rattle.views.proofs.Timers.{head-here, own-timer}
 use Rattle.row_timers.specs.Leasts.{least_from, counts-here, join-start, join-below, join-uncounted, join-over, join-end}
 use Rattle.row_timers.specs.Aging.{timer-any}
 use Rattle.row_timers.proofs.least_timer.Goals as goal

@@ -7,7 +7,7 @@ use lib.Ieee.{Float, of_bits, eq}
 use Rattle.times.specs.Time.{instant}
 use Rattle.lookup.specs.Inside.{table_in}
 use Rattle.lookup.specs.InsideLaws.{sizes-in}
-use Rattle.views.specs.Timers.{head-here, own-timer}
+use Rattle.views.proofs.Timers.{head-here, own-timer}
 use Rattle.sweeps.specs.Skips.{stop_from, stop-end, stop-hit, stop-skip}
 use Rattle.row_timers.specs.Passing.{at_zero}
 use Rattle.row_timers.specs.Aging.{timer-any}

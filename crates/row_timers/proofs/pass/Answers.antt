@@ -7,11 +7,11 @@ use lib.Dec.{T}
 use lib.Ieee.{of_bits}
 use Rattle.times.specs.Time.{is_timer}
 use Rattle.rules.specs.Simulation.{State}
-use Rattle.rules.specs.Least.{own_timer}
+use Rattle.rules.proofs.Least.{own_timer}
 use Rattle.lookup.specs.Inside.{table_in}
 use Rattle.lookup.specs.InsideLaws.{sizes-in}
-use Rattle.views.specs.Frames.{frame_same}
-use Rattle.views.specs.Timers.{own-timer}
+use Rattle.views.proofs.Frames.{frame_same}
+use Rattle.views.proofs.Timers.{own-timer}
 use Rattle.row_timers.specs.Aging.{partly-start, partly-next, partly-end, none_passed}
 use Rattle.row_timers.proofs.pass.Goals as goal
 

@@ -3,9 +3,9 @@ use mathlib.Core.Path.{sym, subst, ◌∙◌}
 use lib.Dec.{T}
 use lib.Ieee.{Float, eq}
 use Rattle.times.specs.Time.{never, is_timer}
-use Rattle.times.specs.Laws.{never-timer, timers-eq}
+use Rattle.times.proofs.Laws.{never-timer, timers-eq}
 use Rattle.lookup.specs.Inside.{table_in}
-use Rattle.views.specs.Timers.{head-here}
+use Rattle.views.proofs.Timers.{head-here}
 use Rattle.row_timers.specs.Aging.{timer-any, aged-never, aged-coupled, aged-atom}
 use borrow.Author.Rules.{rules}
 use Rattle.row_timers.proofs.pass_row.Goals as goal

@@ -9,12 +9,13 @@ use lib.Dec.{T, lt→ltb}
 use lib.Ieee.{Float, binary64, add, eq}
 use lib.Ieee.Bits.{is_true}
 use Rattle.times.specs.Time.{never, is_time, is_timer, is_never}
-use Rattle.times.specs.Answers.{later_of, clock-says, overflow-says}
+use Rattle.times.specs.Answers.{later_of}
+use Rattle.times.proofs.AnswerLaws.{clock-says, overflow-says}
 use Rattle.times.specs.declared.Later.TheVariants.{Clock}
 use Rattle.rules.specs.Sizes.{is_word}
 use Rattle.rules.specs.Base.{◌>>=◌}
 use Rattle.rules.specs.Step.{waited, least_timer, step_on}
-use Rattle.rules.specs.Least.{Below, least-is-timer, least-below}
+use Rattle.rules.proofs.Least.{Below, least-is-timer, least-below}
 use Rattle.memory.specs.declared.Answer.{Answer}
 use Rattle.lookup.specs.Inside.{table_in}
 use Rattle.lookup.specs.InsideLaws.{fine-in}

@@ -1,7 +1,7 @@
 -- `stepping::clock_at` meets its contract: the clock's bits are those of a time. Assumes nothing.
 use mathlib.Core.Path.{sym, subst, ◌∙◌}
 use lib.Dec.{T}
-use Rattle.times.specs.Answers.{time-says, bad-says}
+use Rattle.times.proofs.AnswerLaws.{time-says, bad-says}
 use Rattle.memory.specs.Words.{word_at}
 use Rattle.stepping.proofs.clock_at.Goals as goal
 

@@ -9,7 +9,7 @@ use lib.Ieee.{Float}
 use Rattle.times.specs.Time.{is_time, instant}
 use Rattle.rules.specs.Sizes.{is_word}
 use Rattle.rules.specs.Ends.{All}
-use Rattle.rules.specs.Worlds.{MessageFits}
+use Rattle.rules.proofs.Worlds.{MessageFits}
 use Rattle.rules.specs.Step as Step
 use Rattle.rules.specs.Step.{waited}
 use Rattle.memory.specs.declared.Answer.{Answer}

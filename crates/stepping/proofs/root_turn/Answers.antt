@@ -7,7 +7,7 @@ use Rattle.rules.specs.Step as Step
 use Rattle.memory.specs.declared.Put.{Put}
 use Rattle.lookup.specs.Inside.{table_in}
 use Rattle.views.specs.World.{Gives}
-use Rattle.views.specs.Frames.{frame_same, frame_then, frame-wider}
+use Rattle.views.proofs.Frames.{frame_same, frame_then, frame-wider}
 use Rattle.stepping.specs.Parts.{no-root-turn, root-stops, root-goes, sent-kept, only-frame}
 use Rattle.stepping.proofs.root_turn.Goals as goal
 

@@ -12,7 +12,7 @@ use Rattle.selection.specs.Selected.{sweep-bounds}
 use Rattle.memory.specs.declared.Put.{Put}
 use Rattle.lookup.specs.Inside.{table_in}
 use Rattle.lookup.specs.InsideLaws.{sizes-in, fine-in, in-parentless}
-use Rattle.views.specs.Frames.{frame_then, frame-to}
+use Rattle.views.proofs.Frames.{frame_then, frame-to}
 use Rattle.views.specs.Messages.{messages_in, Joined}
 use Rattle.sweeps.specs.Adding.{adding-start, adding-on, adding-stops, adding-none, adding-end}
 use Rattle.sweeps.specs.Skips.{stop-bounds}

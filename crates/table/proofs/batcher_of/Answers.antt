@@ -1,7 +1,7 @@
 -- `table::batcher_of` meets its contract: each test is one of the kind's rules, and the bits are a time's or not. Assumes nothing.
 use mathlib.Core.Path.{sym, ◌∙◌}
 use borrow.Author.Tests.{le-leb, lt-leb}
-use Rattle.times.specs.Answers.{bad-says}
+use Rattle.times.proofs.AnswerLaws.{bad-says}
 use Rattle.table.proofs.Laws.{port-fits, port-beyond, time-read}
 use Rattle.table.proofs.batcher_of.Goals as goal
 

@@ -8,7 +8,7 @@ use Rattle.lookup.specs.Inside.{table_in}
 use Rattle.lookup.specs.InsideLaws.{sizes-in}
 use Rattle.memory.specs.declared.Answer.{Answer}
 use Rattle.views.specs.World.{Does}
-use Rattle.views.specs.Frames.{frame_then}
+use Rattle.views.proofs.Frames.{frame_then}
 use Rattle.views.specs.Messages.{messages_in}
 use Rattle.sweeps.specs.Loops.{going_start, going_on, going-stops, going-none, going_end}
 use Rattle.sweeps.specs.Skips.{stop-bounds}

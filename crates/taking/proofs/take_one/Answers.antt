@@ -2,7 +2,7 @@
 use mathlib.Core.Path.{sym, ◌∙◌}
 use native.Mathlib.Omega.{arith}
 use Rattle.lookup.specs.Inside.{table_in}
-use Rattle.views.specs.Frames.{frame_same}
+use Rattle.views.proofs.Frames.{frame_same}
 use Rattle.views.specs.Messages.{message_in}
 use Rattle.taking.specs.TakingLaws.{narrow, not-its, its}
 use Rattle.taking.proofs.take_one.Goals as goal

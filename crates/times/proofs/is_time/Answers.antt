@@ -2,7 +2,7 @@
 use mathlib.Core.Path.{sym, ap, ◌∙◌, subst}
 use Prim.Native.Nat.{ℕ}
 use lib.Dec.{T, leb}
-use Rattle.times.specs.Patterns.{limit, time-pattern}
+use Rattle.times.proofs.Patterns.{limit, time-pattern}
 use Rattle.times.proofs.is_time.Goals as goal
 
 pub returns : goal.returns

@@ -2,7 +2,7 @@
 use native.Mathlib.Omega.{arith}
 use borrow.Author.Tests.{le-leb, lt-leb}
 use Rattle.times.specs.Answers.{time_of_bits}
-use Rattle.times.specs.Patterns.{time-bits, limit, limit-no-nan}
+use Rattle.times.proofs.Patterns.{time-bits, limit, limit-no-nan}
 use Rattle.times.proofs.time_of_bits.Goals as goal
 
 pub float_from_bits-result : goal.float_from_bits-result

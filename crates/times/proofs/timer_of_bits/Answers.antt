@@ -1,6 +1,7 @@
 -- `times::timer_of_bits` meets its contract: by what `time_of_bits` says, and at the bits of +infinity by `of-never`. Assumes nothing.
 use mathlib.Core.Path.{sym, ap, ◌∙◌}
-use Rattle.times.specs.Answers.{timer_of_bits, of-never, of-time, of-bad}
+use Rattle.times.specs.Answers.{timer_of_bits}
+use Rattle.times.proofs.AnswerLaws.{of-never, of-time, of-bad}
 use Rattle.times.specs.declared.TimerOf.TheVariants.{Timer}
 use Rattle.times.proofs.timer_of_bits.Goals as goal
 

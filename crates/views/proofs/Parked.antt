@@ -8,13 +8,13 @@ use Rattle.times.specs.Time.{never}
 use Rattle.rules.specs.Table.{Kind, processor, batcher, stopwatch, coupled, Table, kind_at, is_coupled}
 use Rattle.rules.specs.Simulation.{Parked, of_coupled}
 use Rattle.rules.specs.Ends.{All, nil, ◌&◌}
-use Rattle.rules.specs.Least.{own_timer}
+use Rattle.rules.proofs.Least.{own_timer}
 use Rattle.words.specs.QueueLaws.{queue-length}
 use Rattle.memory.specs.Words.{phase_in, timer_in, held_in, own_in}
 use Rattle.memory.specs.View.{parked_of, parked_in, state_in, word_rules, Row}
 use Rattle.memory.specs.Places.{part_length}
 use Rattle.views.specs.World.{begin_of, state_of, Ready}
-use Rattle.views.specs.Layout.{row_of}
+use Rattle.views.proofs.Layout.{row_of}
 
 -- ---- a Coupled's words
 module _ (b : ℕ) (mem : List ℕ) (i : ℕ) (here : Row coupled b mem i) where

@@ -9,7 +9,7 @@ use Rattle.std.proofs.lemmas.List.{length-map}
 use Rattle.std.proofs.Math.Dec.{T}
 use Rattle.std.specs.Float.Ieee.{lt}
 use Rattle.times.specs.Time.{instant, is_time}
-use Rattle.times.specs.Laws as law
+use Rattle.times.proofs.Laws as law
 use Rattle.rules.specs.declared.Refusal.{Refusal}
 use Rattle.rules.specs.declared.Refusal.TheVariants.{TooLarge, BadRow, BadCoupling, ModelNotFound, InvalidModelState, NoMessageRoom, BadTime, NoOutRoom, BadState}
 use Rattle.rules.specs.declared.BatcherPhase.{BatcherPhase}
@@ -27,9 +27,9 @@ use Rattle.rules.specs.Valid.{state_rules, state_fits, message_rules, simulation
 use Rattle.rules.specs.Calls.{guarded, post, handed_back, put, inject_input, reset_messages, reset_global_time, reset, End, Done, Reached, Spent, Refused, Ran, ended, then_ran, fitting, onward, steps, step_n, step, look, steps_until, step_until, get_messages, get_global_time, status_of_first, get_status, Call, InjectInput, Step, StepN, StepUntil, Reset, ResetMessages, ResetGlobalTime, changed, called, calls, list_rules, call_rules}
 use Rattle.rules.specs.Ends.{two-not, All, nil, ◌&◌, all_append, every-all, all-every, parts, whole_of, Ends, stops, goes, ends-if, ends-bind, ends-map, ends-most}
 use Rattle.rules.specs.Depth.{fine, intake-ends}
-use Rattle.rules.specs.Least.{Fitted, fitted, fitted-fits}
+use Rattle.rules.proofs.Least.{Fitted, fitted, fitted-fits}
 use Rattle.rules.specs.Kept.{Other, keep-more}
-use Rattle.rules.specs.Worlds.{Closed, MessageFits, world_of, step_on-keeps}
+use Rattle.rules.proofs.Worlds.{Closed, MessageFits, world_of, step_on-keeps}
 
 -- ---- refusal 20's rules, as facts
 pub record Valid (sim : Simulation) : Type 0 where

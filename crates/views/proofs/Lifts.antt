@@ -11,8 +11,8 @@ use Rattle.rules.specs.Models.{Fate, processor_external, processor_internal, bat
 use Rattle.rules.specs.Step.{Out, Happening, came, went, World, noted, becomes, moved, External, Internal, external_as, external, internal_as, internal}
 use Rattle.rules.specs.Ends.{ends-done}
 use Rattle.rules.specs.Depth.{Fine, Deep}
-use Rattle.rules.specs.Worlds.{Good, external-keeps, internal-keeps}
-use Rattle.rules.specs.Runs.{NotTwenty, any-closed}
+use Rattle.rules.proofs.Worlds.{Good, external-keeps, internal-keeps}
+use Rattle.rules.proofs.Runs.{NotTwenty, any-closed}
 use Rattle.memory.specs.declared.Answer.{Answer}
 use Rattle.memory.specs.declared.Answer.TheVariants as answer
 use Rattle.memory.specs.declared.Put.{Put}
@@ -21,8 +21,8 @@ use Rattle.memory.specs.Words.{place_in, begin_in, width_of, Own}
 use Rattle.memory.specs.View.{outs_in, state_in, Row}
 use Rattle.memory.specs.Atoms.{atom_external, atom_internal, Took, Gave}
 use Rattle.views.specs.World.{begin_of, end_of, state_of, world_in, Laid, Ready, Does, Gives}
-use Rattle.views.specs.Layout.{state-is, row_of}
-use Rattle.views.specs.Frames.{own-laid, own-states}
+use Rattle.views.proofs.Layout.{state-is, row_of}
+use Rattle.views.proofs.Frames.{own-laid, own-states}
 
 -- ---- the rules' event of an atom is the atom's event, then the row's new state, the new place and a line in the log
 bind-bind : {A B C : Type 0} (o : Outcome A) (f : A → Outcome B) (g : B → Outcome C) → (o >>= λ a. f a >>= g) ≡ (o >>= f >>= g)

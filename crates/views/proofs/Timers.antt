@@ -6,11 +6,11 @@ use Rattle.std.specs.Float.{binary64}
 use Rattle.std.specs.Float.Ieee.{of_bits}
 use Rattle.times.specs.Time.{is_timer}
 use Rattle.rules.specs.Table.{Kind, processor, batcher, stopwatch, coupled, Table, kind_at, is_coupled}
-use Rattle.rules.specs.Least.{own_timer, fits-timer}
+use Rattle.rules.proofs.Least.{own_timer, fits-timer}
 use Rattle.memory.specs.Words.{head_at, timer_in}
 use Rattle.memory.specs.View.{state_in}
 use Rattle.views.specs.World.{begin_of, state_of, Laid, Ready}
-use Rattle.views.specs.Layout.{begin-end, head-begin, row_of}
+use Rattle.views.proofs.Layout.{begin-end, head-begin, row_of}
 
 -- an atom's own timer is the second word of its head
 pub own-here : (k : Kind) (b : ℕ) (mem : List ℕ) (i : ℕ) → is_coupled k ≡ false → own_timer (state_in k b mem i) ≡ of_bits binary64 (timer_in mem i)

@@ -11,7 +11,7 @@ use Rattle.std.specs.Float.Ieee.Exact.{odd_sign}
 use Rattle.std.proofs.lemmas.Bool.{lt-leb}
 use Rattle.times.specs.Time.{clear, is_never, never, latest, is_time, is_timer}
 use Rattle.times.specs.Order.{same_test, Is, is, value, clear-no-nan, le-values}
-use Rattle.times.specs.Laws.{never-is, timer-clear, time-timer}
+use Rattle.times.proofs.Laws.{never-is, timer-clear, time-timer}
 
 -- the bits of 2 ^ 60 and of +infinity
 abbrev pub limit : ℕ

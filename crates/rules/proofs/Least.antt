@@ -6,7 +6,7 @@ use Rattle.std.proofs.Math.Path.{ap}
 use Rattle.std.proofs.Math.Dec.{T}
 use Rattle.std.specs.Float.Ieee.{le, eq}
 use Rattle.times.specs.Time.{instant, never, is_timer, least_of}
-use Rattle.times.specs.Laws as law
+use Rattle.times.proofs.Laws as law
 use Rattle.rules.specs.Base.{those, from}
 use Rattle.rules.specs.Table.{Kind, coupled, Row, Table, no_row, row_at, id_at, kind_at, is_parent, is_parentless, parentless, components}
 use Rattle.rules.specs.Intake.{passes_intake}

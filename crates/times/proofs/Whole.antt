@@ -8,8 +8,8 @@ use Rattle.std.specs.Float.Ieee.Back.{round_whole}
 use Rattle.times.specs.Time.{instant, is_time}
 use Rattle.times.specs.Order.{Is, is, value, le-values, unique}
 use Rattle.times.specs.Rounded.{Rounds, differences, sums, run-values}
-use Rattle.times.specs.Laws.{time-fits, time-timer, instant-time, timers-reflexive}
-use Rattle.times.specs.Patterns.{time-value}
+use Rattle.times.proofs.Laws.{time-fits, time-timer, instant-time, timers-reflexive}
+use Rattle.times.proofs.Patterns.{time-value}
 
 -- n ticks: n as an f64
 abbrev pub tick : ℕ → Float

@@ -9,7 +9,7 @@ use Rattle.std.proofs.Math.ListN.{get_or-map}
 use Rattle.std.specs.Float.{binary64}
 use Rattle.std.specs.Float.Ieee.{sub, add, le}
 use Rattle.times.specs.Time.{never, is_never, is_time, is_timer}
-use Rattle.times.specs.Laws as law
+use Rattle.times.proofs.Laws as law
 use Rattle.rules.specs.declared.Refusal.{Refusal}
 use Rattle.rules.specs.declared.Refusal.TheVariants.{InvalidModelState, NoMessageRoom, ClockOverflow, Idle}
 use Rattle.rules.specs.declared.Processor.{Processor}
@@ -27,7 +27,7 @@ use Rattle.rules.specs.Valid.{batcher_rules, stopwatch_rules, parked_rules, coup
 use Rattle.rules.specs.Ends.{if-both, no-some, All, nil, ◌&◌, all_any, all_append, all_map, all-those, all-chosen, every-all, all-every, parts, whole_of, Ends, stops, goes, ends-if, ends-bind, ends-map, ends-both, ends-each, ends-most}
 use Rattle.rules.specs.Decides.{tells, passes, timer-decides, processor-decides, batcher-decides, stopwatch-decides, coupled-state-decides, StateKeeps, of-processor, of-batcher, of-stopwatch, of-coupled, state-decides}
 use Rattle.rules.specs.Depth.{Fine, Deep, parentless-deep}
-use Rattle.rules.specs.Least.{Fitted, own_timer, Below, fits-timer, least-is-timer, least-below}
+use Rattle.rules.proofs.Least.{Fitted, own_timer, Below, fits-timer, least-is-timer, least-below}
 use Rattle.rules.specs.Kept.{Other, Contents, processor-external, processor-internal, batcher-external, batcher-internal, stopwatch-external, stopwatch-internal}
 
 -- ---- a world whose states fit, and whose place is a word

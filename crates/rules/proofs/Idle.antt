@@ -3,7 +3,7 @@ use Rattle.std.specs.Prelude.{ℕ, suc, ◌≡◌, refl, ◌↔◌, List, [], �
 use Rattle.std.proofs.Common.{sym, ◌∙◌, subst, arith}
 use Rattle.std.specs.Float.Ieee.{lt, le}
 use Rattle.times.specs.Time.{instant, never, is_never, least_of}
-use Rattle.times.specs.Laws.{never-timer, timers-antisymmetric, timers-never}
+use Rattle.times.proofs.Laws.{never-timer, timers-antisymmetric, timers-never}
 use Rattle.rules.specs.declared.Refusal.TheVariants.{Idle}
 use Rattle.rules.specs.Base.{refused}
 use Rattle.rules.specs.Table.{kind_at}
@@ -12,9 +12,9 @@ use Rattle.rules.specs.Step.{least, least_timer, one_step}
 use Rattle.rules.specs.Valid.{is_valid}
 use Rattle.rules.specs.Decides.{tells, never-decides}
 use Rattle.rules.specs.Depth.{fine}
-use Rattle.rules.specs.Exactly.{step-idle}
-use Rattle.rules.specs.Least.{own_timer, fits-timer, fitted-fits, least-below, least-is}
-use Rattle.rules.specs.Runs.{Valid, valid-of}
+use Rattle.rules.proofs.Exactly.{step-idle}
+use Rattle.rules.proofs.Least.{own_timer, fits-timer, fitted-fits, least-below, least-is}
+use Rattle.rules.proofs.Runs.{Valid, valid-of}
 
 -- "every timer infinite": those that are kept. A Coupled keeps none: its timer follows from these and what is parked.
 abbrev pub Infinite : State → Type 0

@@ -1,0 +1,6 @@
+-- The laws that rest on what the must-fail edits of specs/ change.
+pub mod Layout
+pub mod Frames
+pub mod Lifts
+pub mod Timers
+pub mod Parked
