@@ -28,7 +28,7 @@ use Rattle.lookup.specs.Inside.{tail_at, table_in}
 use Rattle.memory.specs.Words.{phase_in, held_in, begin_in, width_of, own_in}
 use Rattle.memory.specs.View.{working_of, batching_of, state_in, parked_of, WordsFit, Row}
 use Rattle.views.specs.World.{begin_of, states_in, Ready}
-use Rattle.views.proofs.Layout.{state-is, row_of}
+use Rattle.views.proofs.WorldLayout.{state-is, row_of}
 use Rattle.copying.specs.EndLaws.{width_read}
 use Rattle.stepping.specs.Parts.{is_root}
 use Rattle.rerunning.specs.Running.{tail_in, sim_of}

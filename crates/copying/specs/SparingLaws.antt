@@ -12,7 +12,7 @@ use Rattle.memory.specs.Words.{word_at, head_at, held_in, begin_in, width_of, ow
 use Rattle.memory.specs.View.{WordsFit}
 use Rattle.memory.specs.Places.{only_same, only_set}
 use Rattle.views.specs.World.{begin_of, Laid}
-use Rattle.views.proofs.Layout.{begin-end, head-begin}
+use Rattle.views.proofs.WorldLayout.{begin-end, head-begin}
 use Rattle.copying.specs.Copied.{copied}
 use Rattle.copying.specs.EndLaws.{widths-next}
 use Rattle.copying.specs.Sparing.{Brought, Free, Spare, Alike, Lends}

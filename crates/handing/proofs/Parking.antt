@@ -29,7 +29,7 @@ use Rattle.memory.specs.Words.{place_in, begin_in, width_of, Own}
 use Rattle.memory.specs.View.{parked_in, state_in, WordsFit, Row}
 use Rattle.parked_rows.specs.Parking.{with_one, Parks}
 use Rattle.views.specs.World.{begin_of, state_of, states_in, world_in, Ready, Frame, Moves, Does}
-use Rattle.views.proofs.Layout.{states-long, state-is, row_of}
+use Rattle.views.proofs.WorldLayout.{states-long, state-is, row_of}
 use Rattle.views.proofs.Frames.{own-laid, own-states, own-frame}
 use Rattle.views.proofs.Lifts.{row-kind}
 use Rattle.lookup.specs.Inside.{Inside, table_in, couplings_in}

@@ -29,7 +29,7 @@ use Rattle.memory.specs.View.{state_in, word_rules}
 use Rattle.lookup.specs.Inside.{Inside, count_in, connectors_at, couplings_at, tail_at, models_in, connectors_in, couplings_in, posted_in, table_in}
 use Rattle.lookup.specs.InsideLaws.{place-keeps, counts, lent_models, lent_connectors, lent_couplings, models-part, connectors-part, couplings-part}
 use Rattle.views.specs.World.{widths_of, begin_of, end_of, state_of, states_in}
-use Rattle.views.proofs.Layout.{states-long, state-is}
+use Rattle.views.proofs.WorldLayout.{states-long, state-is}
 use Rattle.views.specs.Messages.{message_in, messages_in}
 use Rattle.views.specs.MessageLaws.{messages-long}
 use Rattle.stepping.specs.Simulating.{clock_in, active_in}

@@ -21,7 +21,7 @@ use Rattle.memory.specs.Places.{own-alike}
 use Rattle.rules.specs.Depth.{Deep}
 use Rattle.parked_rows.specs.Parking.{Emptied}
 use Rattle.views.specs.World.{begin_of, end_of, state_of, states_in, world_in, Ready, Frame, Moves, Puts, Gives}
-use Rattle.views.proofs.Layout.{state-is}
+use Rattle.views.proofs.WorldLayout.{state-is}
 use Rattle.views.proofs.Frames.{own-laid, own-states}
 use Rattle.views.specs.Messages.{Adds, Hands}
 

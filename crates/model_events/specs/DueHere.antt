@@ -17,7 +17,7 @@ use Rattle.words.specs.Search.{first_from}
 use Rattle.words.specs.SearchLaws.{found-to}
 use Rattle.memory.specs.Words.{timer_in, held_in}
 use Rattle.views.specs.World.{begin_of, states_in, Ready}
-use Rattle.views.proofs.Layout.{state-is}
+use Rattle.views.proofs.WorldLayout.{state-is}
 use Rattle.views.proofs.Timers.{own-here}
 use Rattle.views.proofs.Parked.{state-none, state-some}
 use Rattle.model_events.specs.Due.{due-atom, due-coupled}

@@ -23,7 +23,7 @@ use Rattle.memory.specs.Words.{word_at, place_in, head_at, phase_in, timer_in, h
 use Rattle.memory.specs.View.{working_of, batching_of, watching_of, state_in, word_rules, WordsFit}
 use Rattle.memory.specs.Places.{before-own, own_same, outside}
 use Rattle.views.specs.World.{begin_of, end_of, state_of, states_in, Laid, Ready, Frame}
-use Rattle.views.proofs.Layout.{head-begin, states-long, state-is}
+use Rattle.views.proofs.WorldLayout.{head-begin, states-long, state-is}
 use Rattle.views.proofs.Frames.{states-are, same-or-apart, own-laid, own-states, own-frame, frame_same, frame_then}
 use Rattle.views.proofs.Timers.{head-here, own-timer}
 use Rattle.row_timers.specs.Passing.{Passed}

@@ -15,7 +15,7 @@ use Rattle.rules.specs.Depth.{passed-again}
 use Rattle.memory.specs.Words.{timer_in, held_in}
 use Rattle.lookup.specs.Inside.{Inside, table_in, posted_in}
 use Rattle.views.specs.World.{begin_of, state_of, states_in, Ready}
-use Rattle.views.proofs.Layout.{row_of}
+use Rattle.views.proofs.WorldLayout.{row_of}
 use Rattle.views.proofs.Timers.{own-timer}
 use Rattle.views.proofs.Parked.{counts, own-counts}
 

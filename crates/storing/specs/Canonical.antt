@@ -30,7 +30,7 @@ use Rattle.memory.specs.Words.{word_at, head_at, phase_in, timer_in, held_in, be
 use Rattle.memory.specs.View.{working_of, batching_of, watching_of, working_number, batching_number, watching_number, parked_of, state_in, word_rules, Row}
 use Rattle.lookup.specs.InsideLaws.{place-keeps}
 use Rattle.views.specs.World.{begin_of, end_of, state_of, states_in, Ready}
-use Rattle.views.proofs.Layout.{states-long, row_of, head-begin, begin-end}
+use Rattle.views.proofs.WorldLayout.{states-long, row_of, head-begin, begin-end}
 use Rattle.views.specs.MessageLaws.{messages-long}
 use Rattle.copying.specs.CopiedLaws.{messages-written}
 use Rattle.stepping.specs.Simulating.{clock_in, active_in, sim_in}

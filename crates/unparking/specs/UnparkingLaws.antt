@@ -16,7 +16,7 @@ use Rattle.memory.specs.declared.Answer.{Answer}
 use Rattle.memory.specs.Words.{held_in, own_in}
 use Rattle.memory.specs.View.{parked_of, parked_in, state_in, Row}
 use Rattle.views.specs.World.{begin_of, state_of, world_in, Ready, Moves, Does}
-use Rattle.views.proofs.Layout.{state-is}
+use Rattle.views.proofs.WorldLayout.{state-is}
 use Rattle.views.proofs.Parked.{few-held, held-length, row-coupled}
 use Rattle.sweeps.specs.Loops.{all_of, does-as}
 use Rattle.model_events.specs.DueHere.{is_one, components-all}

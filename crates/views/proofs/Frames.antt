@@ -16,7 +16,7 @@ use Rattle.memory.specs.Words.{word_at, head_at, phase_in, timer_in, held_in, be
 use Rattle.memory.specs.View.{working_of, batching_of, watching_of, parked_of, state_in, word_rules, WordsFit}
 use Rattle.memory.specs.Places.{own-reaching, own-reach, part_length}
 use Rattle.views.specs.World.{begin_of, end_of, state_of, states_in, world_in, Laid, Ready, Frame}
-use Rattle.views.proofs.Layout.{begins-apart, begin-end, head-begin, states-long, state-is}
+use Rattle.views.proofs.WorldLayout.{begins-apart, begin-end, head-begin, states-long, state-is}
 
 -- ---- the row j, whose own words begin at b, is as it was
 record Same (j b width : ℕ) (mem after : List ℕ) : Type 0 where

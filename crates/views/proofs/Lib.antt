@@ -1,5 +1,5 @@
 -- The laws that rest on what the must-fail edits of specs/ change.
-pub mod Layout
+pub mod WorldLayout
 pub mod Frames
 pub mod Lifts
 pub mod Timers

@@ -21,7 +21,7 @@ use Rattle.memory.specs.Words.{place_in, begin_in, width_of, Own}
 use Rattle.memory.specs.View.{outs_in, state_in, Row}
 use Rattle.memory.specs.Atoms.{atom_external, atom_internal, Took, Gave}
 use Rattle.views.specs.World.{begin_of, end_of, state_of, world_in, Laid, Ready, Does, Gives}
-use Rattle.views.proofs.Layout.{state-is, row_of}
+use Rattle.views.proofs.WorldLayout.{state-is, row_of}
 use Rattle.views.proofs.Frames.{own-laid, own-states}
 
 -- ---- the rules' event of an atom is the atom's event, then the row's new state, the new place and a line in the log

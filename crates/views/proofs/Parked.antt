@@ -14,7 +14,7 @@ use Rattle.memory.specs.Words.{phase_in, timer_in, held_in, own_in}
 use Rattle.memory.specs.View.{parked_of, parked_in, state_in, word_rules, Row}
 use Rattle.memory.specs.Places.{part_length}
 use Rattle.views.specs.World.{begin_of, state_of, Ready}
-use Rattle.views.proofs.Layout.{row_of}
+use Rattle.views.proofs.WorldLayout.{row_of}
 
 -- ---- a Coupled's words
 module _ (b : ℕ) (mem : List ℕ) (i : ℕ) (here : Row coupled b mem i) where

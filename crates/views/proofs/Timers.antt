@@ -10,7 +10,7 @@ use Rattle.rules.proofs.Least.{own_timer, fits-timer}
 use Rattle.memory.specs.Words.{head_at, timer_in}
 use Rattle.memory.specs.View.{state_in}
 use Rattle.views.specs.World.{begin_of, state_of, Laid, Ready}
-use Rattle.views.proofs.Layout.{begin-end, head-begin, row_of}
+use Rattle.views.proofs.WorldLayout.{begin-end, head-begin, row_of}
 
 -- an atom's own timer is the second word of its head
 pub own-here : (k : Kind) (b : ℕ) (mem : List ℕ) (i : ℕ) → is_coupled k ≡ false → own_timer (state_in k b mem i) ≡ of_bits binary64 (timer_in mem i)

@@ -19,7 +19,7 @@ use Rattle.lookup.specs.Inside.{table_in}
 use Rattle.lookup.specs.InsideLaws.{fine-in}
 use Rattle.views.specs.World.{Gives, Frame}
 use Rattle.views.proofs.Lifts.{gives-kind, row-kind}
-use Rattle.views.proofs.Layout.{begin-end}
+use Rattle.views.proofs.WorldLayout.{begin-end}
 use Rattle.views.proofs.Frames.{frame-wider}
 use Rattle.model_events.specs.OfKind.{is-processor, is-batcher, is-stopwatch, no-coupled, no-broken, frame-kind}
 use borrow.Author.Rules.{rules}
