@@ -2,6 +2,7 @@
 use crate::{say, values};
 use atoms::{BatcherGone, BatcherState, BatcherTaken};
 use rules::{Batcher, BatcherPhase};
+use std::io;
 use words::word_at;
 
 fn phase_of(word: u64) -> BatcherPhase {
@@ -21,30 +22,30 @@ fn state_of(asked: &[u64]) -> BatcherState {
     }
 }
 
-fn say_state(state: BatcherState) {
+fn say_state(rt: &impl Print, state: BatcherState) -> io::Result<()> {
     let phase = state.phase;
     match phase {
-        BatcherPhase::Passive => say::state(say::PASSIVE, state.timer, state.held),
-        BatcherPhase::Batching => say::state(say::BATCHING, state.timer, state.held),
-        BatcherPhase::Release => say::state(say::RELEASE, state.timer, state.held),
+        BatcherPhase::Passive => say::state(rt, say::PASSIVE, state.timer, state.held),
+        BatcherPhase::Batching => say::state(rt, say::BATCHING, state.timer, state.held),
+        BatcherPhase::Release => say::state(rt, say::RELEASE, state.timer, state.held),
     }
 }
 
-fn say_taken(taken: BatcherTaken) {
+fn say_taken(rt: &impl Print, taken: BatcherTaken) -> io::Result<()> {
     let next = taken.next;
     let answer = taken.answer;
-    say::taken(answer);
-    say_state(next);
+    say::taken(rt, answer)?;
+    say_state(rt, next)
 }
 
-fn say_gone(gone: BatcherGone) {
+fn say_gone(rt: &impl Print, gone: BatcherGone) -> io::Result<()> {
     let next = gone.next;
     let answer = gone.answer;
-    say::gone(answer);
-    say_state(next);
+    say::gone(rt, answer)?;
+    say_state(rt, next)
 }
 
-pub(crate) fn run(what: u64, asked: &[u64]) {
+pub(crate) fn run(rt: &impl Print, what: u64, asked: &[u64]) -> io::Result<()> {
     let state = state_of(asked);
     let row = Batcher {
         input: 1,
@@ -53,9 +54,9 @@ pub(crate) fn run(what: u64, asked: &[u64]) {
         max_batch_time: values::float(word_at(asked, 5)),
     };
     match what {
-        6 => say_taken(state.external(row)),
-        7 => say_gone(state.internal(row)),
-        8 => say_taken(state.external_rule(row)),
-        _ => say_gone(state.internal_rule(row)),
+        6 => say_taken(rt, state.external(row)),
+        7 => say_gone(rt, state.internal(row)),
+        8 => say_taken(rt, state.external_rule(row)),
+        _ => say_gone(rt, state.internal_rule(row)),
     }
 }

@@ -2,6 +2,7 @@
 use crate::{say, values};
 use atoms::{ProcessorGone, ProcessorState, ProcessorTaken};
 use rules::{Processor, ProcessorPhase};
+use std::io;
 use words::word_at;
 
 fn phase_of(word: u64) -> ProcessorPhase {
@@ -21,30 +22,30 @@ fn state_of(asked: &[u64]) -> ProcessorState {
 }
 
 // The state, and the place in the service list.
-fn say_state(state: ProcessorState, place: u64) {
+fn say_state(rt: &impl Print, state: ProcessorState, place: u64) -> io::Result<()> {
     let phase = state.phase;
     match phase {
-        ProcessorPhase::Passive => say::state(say::PASSIVE, state.timer, state.held),
-        ProcessorPhase::Active => say::state(say::ACTIVE, state.timer, state.held),
+        ProcessorPhase::Passive => say::state(rt, say::PASSIVE, state.timer, state.held)?,
+        ProcessorPhase::Active => say::state(rt, say::ACTIVE, state.timer, state.held)?,
     }
-    say::named(say::PLACE, place);
+    say::named(rt, say::PLACE, place)
 }
 
-fn say_taken(taken: ProcessorTaken) {
+fn say_taken(rt: &impl Print, taken: ProcessorTaken) -> io::Result<()> {
     let next = taken.next;
     let answer = taken.answer;
-    say::taken(answer);
-    say_state(next, taken.place);
+    say::taken(rt, answer)?;
+    say_state(rt, next, taken.place)
 }
 
-fn say_gone(gone: ProcessorGone) {
+fn say_gone(rt: &impl Print, gone: ProcessorGone) -> io::Result<()> {
     let next = gone.next;
     let answer = gone.answer;
-    say::gone(answer);
-    say_state(next, gone.place);
+    say::gone(rt, answer)?;
+    say_state(rt, next, gone.place)
 }
 
-fn event(what: u64, asked: &[u64], services: &[f64]) {
+fn event(rt: &impl Print, what: u64, asked: &[u64], services: &[f64]) -> io::Result<()> {
     let state = state_of(asked);
     let row = Processor {
         input: 1,
@@ -54,22 +55,22 @@ fn event(what: u64, asked: &[u64], services: &[f64]) {
     let place = word_at(asked, 5);
     let port = values::short(word_at(asked, 6));
     match what {
-        2 => say_taken(state.external(row, services, place, port)),
-        3 => say_gone(state.internal(row, services, place)),
-        4 => say_taken(state.external_rule(row, services, place, port)),
-        _ => say_gone(state.internal_rule(services, place)),
+        2 => say_taken(rt, state.external(row, services, place, port)),
+        3 => say_gone(rt, state.internal(row, services, place)),
+        4 => say_taken(rt, state.external_rule(row, services, place, port)),
+        _ => say_gone(rt, state.internal_rule(services, place)),
     }
 }
 
 // The service times stand behind the first seven numbers.
-pub(crate) fn run(what: u64, asked: &[u64]) {
+pub(crate) fn run(rt: &impl Print, what: u64, asked: &[u64]) -> io::Result<()> {
     let mut times = [0f64; 8];
     if asked.len() < 7 {
-        return;
+        return Ok(());
     }
     if 15 < asked.len() {
-        return;
+        return Ok(());
     }
     values::lay_times(&mut times, &asked[7..]);
-    event(what, asked, &times[0..asked.len() - 7]);
+    event(rt, what, asked, &times[0..asked.len() - 7])
 }

@@ -1,5 +1,6 @@
 // Queues in lent words, and the search for a row. The words stand at the end of the line.
 use crate::say;
+use std::io;
 use words::{Cell, Found, Key, word_at};
 
 // The four words of a queue.
@@ -12,28 +13,28 @@ fn queue_of(asked: &[u64]) -> [u64; 4] {
     ]
 }
 
-fn say_queue(words: &[u64; 4]) {
-    say::named(say::ANSWER, words[0]);
-    say::named(say::BLANK, words[1]);
-    say::named(say::BLANK, words[2]);
-    say::named(say::BLANK, words[3]);
+fn say_queue(rt: &impl Print, words: &[u64; 4]) -> io::Result<()> {
+    say::named(rt, say::ANSWER, words[0])?;
+    say::named(rt, say::BLANK, words[1])?;
+    say::named(rt, say::BLANK, words[2])?;
+    say::named(rt, say::BLANK, words[3])
 }
 
 // So many words are held, and one comes.
-fn push(asked: &[u64]) {
+fn push(rt: &impl Print, asked: &[u64]) -> io::Result<()> {
     let mut words = queue_of(asked);
     let held = word_at(asked, 1) as usize;
     words::push(&mut words, held, word_at(asked, 2));
-    say_queue(&words);
+    say_queue(rt, &words)
 }
 
 // So many words are held, and so many go.
-fn move_up(asked: &[u64]) {
+fn move_up(rt: &impl Print, asked: &[u64]) -> io::Result<()> {
     let mut words = queue_of(asked);
     let held = word_at(asked, 1) as usize;
     let gone = word_at(asked, 2) as usize;
     words::move_up(&mut words, held, gone);
-    say_queue(&words);
+    say_queue(rt, &words)
 }
 
 fn cell_of(at: u64, value: u64) -> Cell {
@@ -56,34 +57,36 @@ fn key_of(asked: &[u64]) -> Key {
     }
 }
 
-fn find(words: &[u64], asked: &[u64]) {
+fn find(rt: &impl Print, words: &[u64], asked: &[u64]) -> io::Result<()> {
     let width = word_at(asked, 1) as usize;
     let from = word_at(asked, 2) as usize;
     let rows = word_at(asked, 3) as usize;
     match words::next_row(words, width, from, rows, key_of(asked)) {
-        Found::At(row) => say::named(say::ROW, row as u64),
-        Found::Nothing => say::text(say::NOTHING),
+        Found::At(row) => say::named(rt, say::ROW, row as u64),
+        Found::Nothing => say::text(rt, say::NOTHING),
     }
 }
 
-fn next_row(asked: &[u64]) {
+fn next_row(rt: &impl Print, asked: &[u64]) -> io::Result<()> {
     if 12 <= asked.len() {
-        find(&asked[12..], asked);
+        return find(rt, &asked[12..], asked);
     }
+    Ok(())
 }
 
-fn word(asked: &[u64]) {
+fn word(rt: &impl Print, asked: &[u64]) -> io::Result<()> {
     if 2 <= asked.len() {
         let place = word_at(asked, 1) as usize;
-        say::named(say::ANSWER, word_at(&asked[2..], place));
+        return say::named(rt, say::ANSWER, word_at(&asked[2..], place));
     }
+    Ok(())
 }
 
-pub(crate) fn run(what: u64, asked: &[u64]) {
+pub(crate) fn run(rt: &impl Print, what: u64, asked: &[u64]) -> io::Result<()> {
     match what {
-        19 => push(asked),
-        20 => move_up(asked),
-        21 => next_row(asked),
-        _ => word(asked),
+        19 => push(rt, asked),
+        20 => move_up(rt, asked),
+        21 => next_row(rt, asked),
+        _ => word(rt, asked),
     }
 }

@@ -1,6 +1,7 @@
 // What the cases write to standard output.
 use atoms::{Gone, Taken};
 use rules::Refusal;
+use std::io;
 use table::Verdict;
 
 // How wide a text is with the dots that fill it up.
@@ -111,114 +112,117 @@ fn text_end(texts: &[u8], from: usize) -> usize {
     at
 }
 
-fn part(texts: &[u8], from: usize) {
+fn part(rt: &impl Print, texts: &[u8], from: usize) -> io::Result<()> {
     let end = text_end(texts, from);
     if end <= texts.len() {
         if from <= end {
-            io::write_all(1, &texts[from..end]);
+            return rt.write_all(&texts[from..end]);
         }
     }
+    Ok(())
 }
 
 // One literal for all: each has a price in the proof.
-pub(crate) fn text(which: usize) {
+pub(crate) fn text(rt: &impl Print, which: usize) -> io::Result<()> {
     if which < 60 {
-        part(
+        return part(
+            rt,
             b" out..................... TooLarge................ BadRow.................. BadCoupling............. ModelNotFound........... InvalidMessage.......... InvalidModelState....... NoQueueRoom............. NoMessageRoom........... NoServiceTime........... BadTime................. ClockOverflow........... Idle.................... NoOutRoom...............started..................kept.....................dropped..................marked...................asked....................: ....................... BadState................ ........................; Passive................; Active.................; Batching...............; Release................; JobFetch..............., timer ................., ....................... held...................., place .................: time .................., then place ............: job ...................: nothing................: none...................: cut short.............., words changed: ........: row ...................\n.................................................: passed................. BadRow, row ............ BadCoupling, connector . BadCoupling, coupling ..: id ....................; processor..............; batcher................; stopwatch..............; Coupled................; broken................., ports ................., capacity .............., size .................., time .................., Minimum................, Maximum................; parent ................; no parent..............; depth .................",
             which * WIDE,
         );
     }
+    Ok(())
 }
 
-pub(crate) fn number(n: u64) {
-    io::print_decimal(1, n);
+pub(crate) fn number(rt: &impl Print, n: u64) -> io::Result<()> {
+    print!(rt; "{n}")
 }
 
-pub(crate) fn hex(word: u64) {
-    io::print_hex(1, word, 16);
+pub(crate) fn hex(rt: &impl Print, word: u64) -> io::Result<()> {
+    print!(rt; "{word:016x}")
 }
 
 // The bits of an f64, behind a text.
-pub(crate) fn bits(which: usize, x: f64) {
-    text(which);
-    hex(times::bits_of(x));
+pub(crate) fn bits(rt: &impl Print, which: usize, x: f64) -> io::Result<()> {
+    text(rt, which)?;
+    hex(rt, times::bits_of(x))
 }
 
 // A number, behind a text.
-pub(crate) fn named(which: usize, n: u64) {
-    text(which);
-    number(n);
+pub(crate) fn named(rt: &impl Print, which: usize, n: u64) -> io::Result<()> {
+    text(rt, which)?;
+    number(rt, n)
 }
 
 // A case's name, which stands behind `# ` in its line.
-pub(crate) fn heading(line: &[u8], end: usize) {
+pub(crate) fn heading(rt: &impl Print, line: &[u8], end: usize) -> io::Result<()> {
     if line.len() < 2 {
-        return;
+        return Ok(());
     }
     if line.len() - 2 < end {
-        return;
+        return Ok(());
     }
-    io::write_all(1, &line[end + 2..]);
+    rt.write_all(&line[end + 2..])
 }
 
 // A refusal's number and name.
-pub(crate) fn refusal(refusal: Refusal) {
+pub(crate) fn refusal(rt: &impl Print, refusal: Refusal) -> io::Result<()> {
     let n = rules::number(refusal) as u64;
-    named(ANSWER, n);
-    text(n as usize);
+    named(rt, ANSWER, n)?;
+    text(rt, n as usize)
 }
 
-fn answer(which: usize) {
-    text(ANSWER);
-    text(which);
+fn answer(rt: &impl Print, which: usize) -> io::Result<()> {
+    text(rt, ANSWER)?;
+    text(rt, which)
 }
 
 // What became of what came.
-pub(crate) fn taken(taken: Taken) {
+pub(crate) fn taken(rt: &impl Print, taken: Taken) -> io::Result<()> {
     match taken {
-        Taken::Started => answer(STARTED),
-        Taken::Kept => answer(KEPT),
-        Taken::Dropped => answer(DROPPED),
-        Taken::Marked => answer(MARKED),
-        Taken::Asked => answer(ASKED),
-        Taken::Refused(why) => refusal(why),
+        Taken::Started => answer(rt, STARTED),
+        Taken::Kept => answer(rt, KEPT),
+        Taken::Dropped => answer(rt, DROPPED),
+        Taken::Marked => answer(rt, MARKED),
+        Taken::Asked => answer(rt, ASKED),
+        Taken::Refused(why) => refusal(rt, why),
     }
 }
 
-fn out(count: u64) {
-    named(ANSWER, count);
-    text(OUT);
+fn out(rt: &impl Print, count: u64) -> io::Result<()> {
+    named(rt, ANSWER, count)?;
+    text(rt, OUT)
 }
 
 // How many jobs go out.
-pub(crate) fn gone(answer: Gone) {
+pub(crate) fn gone(rt: &impl Print, answer: Gone) -> io::Result<()> {
     match answer {
-        Gone::Out(count) => out(count),
-        Gone::Refused(why) => refusal(why),
+        Gone::Out(count) => out(rt, count),
+        Gone::Refused(why) => refusal(rt, why),
     }
 }
 
 // A state: its phase, its timer and how many are held.
-pub(crate) fn state(phase: usize, timer: f64, held: u64) {
-    text(phase);
-    bits(TIMER, timer);
-    named(AND, held);
-    text(HELD);
+pub(crate) fn state(rt: &impl Print, phase: usize, timer: f64, held: u64) -> io::Result<()> {
+    text(rt, phase)?;
+    bits(rt, TIMER, timer)?;
+    named(rt, AND, held)?;
+    text(rt, HELD)
 }
 
 // A refusal's number and name, and the row that it was met at.
-fn refused(refusal: Refusal, name: usize, row: usize) {
-    named(ANSWER, rules::number(refusal) as u64);
-    named(name, row as u64);
+fn refused(rt: &impl Print, refusal: Refusal, name: usize, row: usize) -> io::Result<()> {
+    named(rt, ANSWER, rules::number(refusal) as u64)?;
+    named(rt, name, row as u64)
 }
 
 // What intake says of a table.
-pub(crate) fn verdict(verdict: Verdict) {
+pub(crate) fn verdict(rt: &impl Print, verdict: Verdict) -> io::Result<()> {
     match verdict {
-        Verdict::TooLarge => refusal(Refusal::TooLarge),
-        Verdict::BadRow(row) => refused(Refusal::BadRow, BAD_ROW, row),
-        Verdict::BadConnector(row) => refused(Refusal::BadCoupling, BAD_CONNECTOR, row),
-        Verdict::BadCoupling(row) => refused(Refusal::BadCoupling, BAD_COUPLING, row),
-        Verdict::Passed => text(PASSED),
+        Verdict::TooLarge => refusal(rt, Refusal::TooLarge),
+        Verdict::BadRow(row) => refused(rt, Refusal::BadRow, BAD_ROW, row),
+        Verdict::BadConnector(row) => refused(rt, Refusal::BadCoupling, BAD_CONNECTOR, row),
+        Verdict::BadCoupling(row) => refused(rt, Refusal::BadCoupling, BAD_COUPLING, row),
+        Verdict::Passed => text(rt, PASSED),
     }
 }

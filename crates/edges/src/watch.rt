@@ -3,6 +3,7 @@ use crate::{say, sheet, values};
 use atoms::{Named, StopwatchGone, StopwatchState, StopwatchTaken};
 use marks::MeanOf;
 use rules::{Metric, Stopwatch, StopwatchPhase};
+use std::io;
 use words::word_at;
 
 fn metric_of(word: u64) -> Metric {
@@ -39,114 +40,121 @@ fn state_of(asked: &[u64]) -> StopwatchState {
     }
 }
 
-fn say_state(state: StopwatchState) {
+fn say_state(rt: &impl Print, state: StopwatchState) -> io::Result<()> {
     let phase = state.phase;
     match phase {
-        StopwatchPhase::Passive => say::state(say::PASSIVE, state.timer, state.held),
-        StopwatchPhase::JobFetch => say::state(say::FETCHING, state.timer, state.held),
+        StopwatchPhase::Passive => say::state(rt, say::PASSIVE, state.timer, state.held),
+        StopwatchPhase::JobFetch => say::state(rt, say::FETCHING, state.timer, state.held),
     }
 }
 
-fn say_taken(taken: StopwatchTaken) {
+fn say_taken(rt: &impl Print, taken: StopwatchTaken) -> io::Result<()> {
     let next = taken.next;
     let answer = taken.answer;
-    say::taken(answer);
-    say_state(next);
+    say::taken(rt, answer)?;
+    say_state(rt, next)
 }
 
-fn say_gone(gone: StopwatchGone) {
+fn say_gone(rt: &impl Print, gone: StopwatchGone) -> io::Result<()> {
     let next = gone.next;
     let answer = gone.answer;
     match answer {
-        Named::Job(name) => say::named(say::JOB, name),
-        Named::Nothing => say::text(say::NOTHING),
-        Named::Refused(why) => say::refusal(why),
+        Named::Job(name) => say::named(rt, say::JOB, name)?,
+        Named::Nothing => say::text(rt, say::NOTHING)?,
+        Named::Refused(why) => say::refusal(rt, why)?,
     }
-    say_state(next);
+    say_state(rt, next)
 }
 
-fn external(what: u64, asked: &[u64], words: &mut [u64]) {
+fn external(rt: &impl Print, what: u64, asked: &[u64], words: &mut [u64]) -> io::Result<()> {
     let state = state_of(asked);
     let row = row_of(asked);
     let clock = values::float(word_at(asked, 10));
     let port = values::short(word_at(asked, 11));
     let job = values::small(word_at(asked, 12));
     if what == 12 {
-        say_taken(state.external_rule(row, clock, port, job, words));
+        say_taken(rt, state.external_rule(row, clock, port, job, words))
     } else {
-        say_taken(state.external(row, clock, port, job, words));
+        say_taken(rt, state.external(row, clock, port, job, words))
     }
 }
 
-fn internal(what: u64, asked: &[u64], words: &[u64]) {
+fn internal(rt: &impl Print, what: u64, asked: &[u64], words: &[u64]) -> io::Result<()> {
     let state = state_of(asked);
     let row = row_of(asked);
     if what == 13 {
-        say_gone(state.internal_rule(row, words));
+        say_gone(rt, state.internal_rule(row, words))
     } else {
-        say_gone(state.internal(row, words));
+        say_gone(rt, state.internal(row, words))
     }
 }
 
-fn mean(asked: &[u64], words: &[u64]) {
+fn mean(rt: &impl Print, asked: &[u64], words: &[u64]) -> io::Result<()> {
     match marks::mean(words, word_at(asked, 3)) {
-        MeanOf::Mean(mean) => say::bits(say::ANSWER, mean),
-        MeanOf::Nothing => say::text(say::NONE),
-        MeanOf::CutShort => say::text(say::CUT_SHORT),
+        MeanOf::Mean(mean) => say::bits(rt, say::ANSWER, mean),
+        MeanOf::Nothing => say::text(rt, say::NONE),
+        MeanOf::CutShort => say::text(rt, say::CUT_SHORT),
     }
 }
 
 // The three words of a job.
-fn job(asked: &[u64], words: &[u64]) {
+fn job(rt: &impl Print, asked: &[u64], words: &[u64]) -> io::Result<()> {
     let k = word_at(asked, 3) as usize;
     if k < 64 {
-        say::named(say::ANSWER, word_at(words, k));
-        say::text(say::BLANK);
-        say::hex(word_at(words, 64 + k));
-        say::text(say::BLANK);
-        say::hex(word_at(words, 128 + k));
+        say::named(rt, say::ANSWER, word_at(words, k))?;
+        say::text(rt, say::BLANK)?;
+        say::hex(rt, word_at(words, 64 + k))?;
+        say::text(rt, say::BLANK)?;
+        say::hex(rt, word_at(words, 128 + k))?;
     }
+    Ok(())
 }
 
-fn say_changes(before: &[u64], after: &[u64]) {
-    say::named(say::CHANGED, sheet::changes(before, after));
+fn say_changes(rt: &impl Print, before: &[u64], after: &[u64]) -> io::Result<()> {
+    say::named(rt, say::CHANGED, sheet::changes(before, after))
 }
 
 // How many words are not 0.
-fn set(words: &[u64]) {
+fn set(rt: &impl Print, words: &[u64]) -> io::Result<()> {
     let none = [0u64; 0];
-    say_changes(words, &none);
+    say_changes(rt, words, &none)
 }
 
-fn on_words(what: u64, asked: &[u64], words: &mut [u64]) {
+fn on_words(rt: &impl Print, what: u64, asked: &[u64], words: &mut [u64]) -> io::Result<()> {
     match what {
-        11 | 13 => internal(what, asked, words),
-        15 => set(words),
-        16 => mean(asked, words),
-        17 => job(asked, words),
-        18 => say::named(say::ANSWER, word_at(words, word_at(asked, 3) as usize)),
-        _ => external(what, asked, words),
+        11 | 13 => internal(rt, what, asked, words),
+        15 => set(rt, words),
+        16 => mean(rt, asked, words),
+        17 => job(rt, asked, words),
+        18 => say::named(rt, say::ANSWER, word_at(words, word_at(asked, 3) as usize)),
+        _ => external(rt, what, asked, words),
     }
 }
 
 // The words that are lent.
-fn lend(what: u64, asked: &[u64], words: &mut [u64]) {
+fn lend(rt: &impl Print, what: u64, asked: &[u64], words: &mut [u64]) -> io::Result<()> {
     let from = word_at(asked, 1) as usize;
     let end = word_at(asked, 2) as usize;
     if words.len() < end {
-        return;
+        return Ok(());
     }
     if end < from {
-        return;
+        return Ok(());
     }
-    on_words(what, asked, &mut words[from..end]);
+    on_words(rt, what, asked, &mut words[from..end])
 }
 
 // After 14, as 10 is, it says how many words were changed.
-pub(crate) fn run(what: u64, asked: &[u64], words: &mut [u64; 4096]) {
+pub(crate) fn run(
+    rt: &impl Print,
+    what: u64,
+    asked: &[u64],
+    words: &mut [u64; 4096],
+) -> io::Result<()> {
     let before = *words;
-    lend(what, asked, words);
+    lend(rt, what, asked, words)?;
     if what == 14 {
-        say_changes(&before, words);
+        say_changes(rt, &before, words)?;
     }
+    Ok(())
 }

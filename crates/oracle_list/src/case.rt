@@ -1,8 +1,9 @@
 // One case: a simulation from its post on.
-ghost use Rattle.std.specs.Prelude.{◌≤◌, length};
+ghost use Rattle.std.specs.Prelude.{◌≤◌, length, IfOk};
 
 use crate::{calls, lines, say, sheets};
 use judging::Seen;
+use std::io;
 
 #[derive(Clone, Copy)]
 pub(crate) struct Replayed {
@@ -63,14 +64,15 @@ fn make(
 
 // The first call of a text: its line, and the line of its answer. Where the next begins; 0 where it differs, and then it was said.
 fn one(
+    rt: &impl Print,
     case: u64,
     call: u64,
     text: &[u8],
     state: &mut [u64],
     told: &mut [u64],
     services: &[f64],
-) -> usize
-    ensures { result ≤ length text.now }
+) -> io::Result<usize>
+    ensures { IfOk result (λ used. used ≤ length text.now) }
 {
     let mut asked = [0u64; 4096];
     let mut said = [0u64; 4096];
@@ -79,31 +81,38 @@ fn one(
     let asking = line.count;
     let saying = answer.count;
     let seen = make(&asked[0..asking], &said[0..saying], state, told, services);
-    if say::is_same(case, call, seen) {
-        return answer.next;
+    if say::is_same(rt, case, call, seen)? {
+        return Ok(answer.next);
     }
-    0
+    Ok(0)
 }
 
 // The calls of a case, up to the first that differs.
-fn all(case: u64, text: &[u8], state: &mut [u64], told: &mut [u64], services: &[f64]) -> Replayed {
+fn all(
+    rt: &impl Print,
+    case: u64,
+    text: &[u8],
+    state: &mut [u64],
+    told: &mut [u64],
+    services: &[f64],
+) -> io::Result<Replayed> {
     let mut at = 0;
     let mut call: u64 = 0;
     while at < text.len() {
         call = next(call);
-        let used = one(case, call, &text[at..], state, told, services);
+        let used = one(rt, case, call, &text[at..], state, told, services)?;
         if used == 0 {
-            return Replayed {
+            return Ok(Replayed {
                 calls: call,
                 differs: true,
-            };
+            });
         }
         at += used;
     }
-    Replayed {
+    Ok(Replayed {
         calls: call,
         differs: false,
-    }
+    })
 }
 
 // The service times, from their bits.
@@ -119,28 +128,29 @@ fn lay_times(times: &mut [f64], bits: &[u64]) {
 }
 
 // A case that does not begin as cases do.
-fn wrong(case: u64) -> Replayed {
-    say::differs(case, 0, Seen::Wrong);
-    Replayed {
+fn wrong(rt: &impl Print, case: u64) -> io::Result<Replayed> {
+    say::differs(rt, case, 0, Seen::Wrong)?;
+    Ok(Replayed {
         calls: 0,
         differs: true,
-    }
+    })
 }
 
 // The calls, with so many words lent for the state and these service times.
-fn lend(case: u64, words: u64, bits: &[u64], text: &[u8]) -> Replayed {
+fn lend(rt: &impl Print, case: u64, words: u64, bits: &[u64], text: &[u8]) -> io::Result<Replayed> {
     let mut times = [0f64; 512];
     let mut state = [judging::BEFORE; 17286];
     let mut told = [judging::BEFORE; 17286];
     if 17286 < words {
-        return wrong(case);
+        return wrong(rt, case);
     }
     if 512 < bits.len() {
-        return wrong(case);
+        return wrong(rt, case);
     }
     lay_times(&mut times, bits);
     let end = words as usize;
     all(
+        rt,
         case,
         text,
         &mut state[0..end],
@@ -150,13 +160,13 @@ fn lend(case: u64, words: u64, bits: &[u64], text: &[u8]) -> Replayed {
 }
 
 // A case: its first line has its number, how many words are lent for the state, and the service times; then come the calls.
-pub(crate) fn replay(text: &[u8]) -> Replayed {
+pub(crate) fn replay(rt: &impl Print, text: &[u8]) -> io::Result<Replayed> {
     let mut head = [0u64; 1024];
     let line = lines::read(text, 0, &mut head);
     let count = line.count;
     let next = line.next;
     if count < 2 {
-        return wrong(0);
+        return wrong(rt, 0);
     }
-    lend(head[0], head[1], &head[2..count], &text[next..])
+    lend(rt, head[0], head[1], &head[2..count], &text[next..])
 }

@@ -1,6 +1,8 @@
 // The list, read piece by piece.
 use crate::case::Replayed;
 use crate::{case, say};
+use std::io;
+use std::io::Read;
 
 // How many cases and calls were replayed, how many cases differ, and where the last of them ends in its piece.
 #[derive(Clone, Copy)]
@@ -19,15 +21,16 @@ fn sum(a: u64, b: u64) -> u64 {
 }
 
 // Reads on behind the bytes that are kept. Where they now end.
-fn read_on(text: &mut [u8], kept: usize) -> usize {
-    if text.len() <= kept {
-        return kept;
+fn read_on(reader: &mut impl Read, text: &mut [u8], kept: usize) -> io::Result<usize> {
+    let mut end = kept;
+    while end < text.len() {
+        let got = reader.read(&mut text[end..])?;
+        if got == 0 {
+            return Ok(end);
+        }
+        end += got;
     }
-    let got = io::read_full(0, &mut text[kept..]);
-    if text.len() - kept < got {
-        return kept;
-    }
-    kept + got
+    Ok(end)
 }
 
 // Moves the bytes from `from` to before `end` to the front. How many they are.
@@ -80,30 +83,34 @@ fn is_note(text: &[u8]) -> bool {
 }
 
 // The cases that stand whole in the text.
-fn cases(text: &[u8], before: Total) -> Total {
+fn cases(rt: &impl Print, text: &[u8], before: Total) -> io::Result<Total> {
     let mut total = before;
     total.used = 0;
     let mut at = 0;
     while at < text.len() {
         let end = case_end(text, at);
         if text.len() <= end {
-            return total;
+            return Ok(total);
         }
         if end < at {
-            return total;
+            return Ok(total);
         }
         if is_note(&text[at..end]) {
             total.used = end + 1;
         } else {
-            total = added(total, case::replay(&text[at..end]), end + 1);
+            total = added(total, case::replay(rt, &text[at..end])?, end + 1);
         }
         at = end + 1;
     }
-    total
+    Ok(total)
 }
 
 // All cases. A list that ends within a case is cut short.
-pub(crate) fn replay(text: &mut [u8]) -> Total {
+pub(crate) fn replay(
+    rt: &impl Print,
+    reader: &mut impl Read,
+    text: &mut [u8],
+) -> io::Result<Total> {
     let mut total = Total {
         cases: 0,
         calls: 0,
@@ -113,19 +120,19 @@ pub(crate) fn replay(text: &mut [u8]) -> Total {
     let mut kept = 0;
     let mut turns: u64 = 65536;
     while 0 < turns {
-        let end = read_on(text, kept);
+        let end = read_on(reader, text, kept)?;
         if text.len() < end {
-            return total;
+            return Ok(total);
         }
         if end <= kept {
             if kept != 0 {
-                say::cut_short();
+                say::cut_short(rt)?;
             }
-            return total;
+            return Ok(total);
         }
-        total = cases(&text[0..end], total);
+        total = cases(rt, &text[0..end], total)?;
         kept = keep(text, total.used, end);
         turns -= 1;
     }
-    total
+    Ok(total)
 }

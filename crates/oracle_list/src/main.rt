@@ -8,7 +8,10 @@ mod list;
 mod say;
 mod sheets;
 
-fn main() {
-    let mut text = io::large_buffer();
-    say::total(list::replay(&mut text));
+use std::io;
+
+fn main(rt: HostRuntime) -> io::Result<()> {
+    let mut text = [0u8; 65536];
+    let total = list::replay(&rt, &mut rt.reader(), &mut text)?;
+    say::total(&rt, total)
 }

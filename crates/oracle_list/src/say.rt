@@ -1,62 +1,63 @@
 // What the replay writes to standard output.
 use crate::list::Total;
 use judging::Seen;
+use std::io;
 
-fn text(bytes: &[u8]) {
-    io::write_all(1, bytes);
+fn text(rt: &impl Print, bytes: &[u8]) -> io::Result<()> {
+    rt.write_all(bytes)
 }
 
-fn number(n: u64) {
-    io::print_decimal(1, n);
+fn number(rt: &impl Print, n: u64) -> io::Result<()> {
+    print!(rt; "{n}")
 }
 
 // Where a call differs, counted from 0.
-fn place(seen: Seen) {
+fn place(rt: &impl Print, seen: Seen) -> io::Result<()> {
     match seen {
-        Seen::Same => {}
+        Seen::Same => Ok(()),
         Seen::Answer(place) => {
-            text(b": number ");
-            number(place as u64);
-            text(b" of its answer");
+            text(rt, b": number ")?;
+            number(rt, place as u64)?;
+            text(rt, b" of its answer")
         }
         Seen::State(place) => {
-            text(b": word ");
-            number(place as u64);
-            text(b" of the state");
+            text(rt, b": word ")?;
+            number(rt, place as u64)?;
+            text(rt, b" of the state")
         }
-        Seen::Wrong => text(b": no such call, or the oracle's answer is cut short"),
+        Seen::Wrong => text(rt, b": no such call, or the oracle's answer is cut short"),
     }
 }
 
 // A call that differs; 0 stands for the case's first line.
-pub(crate) fn differs(case: u64, call: u64, seen: Seen) {
-    text(b"case ");
-    number(case);
-    text(b", call ");
-    number(call);
-    place(seen);
-    text(b"\n");
+pub(crate) fn differs(rt: &impl Print, case: u64, call: u64, seen: Seen) -> io::Result<()> {
+    text(rt, b"case ")?;
+    number(rt, case)?;
+    text(rt, b", call ")?;
+    number(rt, call)?;
+    place(rt, seen)?;
+    text(rt, b"\n")
 }
 
 // Whether a call is the same; one that is not is said.
-pub(crate) fn is_same(case: u64, call: u64, seen: Seen) -> bool {
+pub(crate) fn is_same(rt: &impl Print, case: u64, call: u64, seen: Seen) -> io::Result<bool> {
     if judging::is_same(seen) {
-        return true;
+        return Ok(true);
     }
-    differs(case, call, seen);
-    false
+    differs(rt, case, call, seen)?;
+    Ok(false)
 }
 
-pub(crate) fn cut_short() {
-    text(b"the list is cut short\n");
+pub(crate) fn cut_short(rt: &impl Print) -> io::Result<()> {
+    text(rt, b"the list is cut short\n")
 }
 
 // The last line.
-pub(crate) fn total(total: Total) {
-    number(total.cases);
-    text(b" cases, ");
-    number(total.calls);
-    text(b" calls, ");
-    number(total.differ);
-    text(b" differ\n");
+pub(crate) fn total(rt: &impl Print, total: Total) -> io::Result<()> {
+    number(rt, total.cases)?;
+    text(rt, b" cases, ")?;
+    number(rt, total.calls)?;
+    text(rt, b" calls, ")?;
+    number(rt, total.differ)?;
+    text(rt, b" differ\n")
 }

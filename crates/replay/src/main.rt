@@ -6,6 +6,7 @@ mod say;
 use memory::Answer;
 use rules::Message;
 use simulation::Simulation;
+use std::io;
 
 // Id 1 a batcher (m = 2, batch time 10), id 2 a processor (capacity 8), ports in 1 and out 2.
 fn models() -> [u64; 20] {
@@ -53,50 +54,54 @@ fn job(content: u32) -> Message {
     }
 }
 
-fn post(state: &mut [u64]) {
+fn post(rt: &impl Print, state: &mut [u64]) -> io::Result<()> {
     let none = [0u64; 0];
-    say::answer(simulation::post(&models(), &connectors(), &none, state));
+    say::answer(rt, simulation::post(&models(), &connectors(), &none, state))
 }
 
 // A job injected at 1:1.
-fn inject(state: &mut [u64], content: u32) {
-    say::answer(simulation::inject_input(state, job(content)));
+fn inject(rt: &impl Print, state: &mut [u64], content: u32) -> io::Result<()> {
+    say::answer(rt, simulation::inject_input(state, job(content)))
 }
 
-fn one_step(state: &mut [u64], number: u64) {
+fn one_step(rt: &impl Print, state: &mut [u64], number: u64) -> io::Result<()> {
     let mut rows = [0u64; 12];
-    say::text(b"step ");
-    say::number(number);
-    say::text(b": ");
-    say::report(simulation::step(state, &services(), &mut rows));
-    say::words(b"  rows", &rows);
-    say::words(b"  state", state);
+    say::text(rt, b"step ")?;
+    say::number(rt, number)?;
+    say::text(rt, b": ")?;
+    say::report(rt, simulation::step(state, &services(), &mut rows))?;
+    say::words(rt, b"  rows", &rows)?;
+    say::words(rt, b"  state", state)
 }
 
 // Ten steps, and the one that is refused.
-fn run_steps(state: &mut [u64]) {
+fn run_steps(rt: &impl Print, state: &mut [u64]) -> io::Result<()> {
     let mut number = 1;
     while number < 12 {
-        one_step(state, number);
+        one_step(rt, state, number)?;
         number += 1;
     }
+    Ok(())
 }
 
-fn run_until(state: &mut [u64]) {
+fn run_until(rt: &impl Print, state: &mut [u64]) -> io::Result<()> {
     let mut rows = [0u64; 18];
-    say::text(b"until 10: ");
-    say::report(simulation::step_until(state, &services(), 10.0, 1000, &mut rows));
-    say::words(b"  rows", &rows);
-    say::words(b"  state", state);
+    say::text(rt, b"until 10: ")?;
+    say::report(
+        rt,
+        simulation::step_until(state, &services(), 10.0, 1000, &mut rows),
+    )?;
+    say::words(rt, b"  rows", &rows)?;
+    say::words(rt, b"  state", state)
 }
 
-fn show(simulation: Simulation) {
+fn show(rt: &impl Print, simulation: Simulation) -> io::Result<()> {
     let words = simulation.words;
-    say::words(b"  state", &words);
+    say::words(rt, b"  state", &words)
 }
 
 // The same by value, in one run.
-fn run_value() {
+fn run_value(rt: &impl Print) -> io::Result<()> {
     let none = [0u64; 0];
     let mut rows = [0u64; 18];
     let posted = Simulation::post(&models(), &connectors(), &none);
@@ -107,36 +112,36 @@ fn run_value() {
         .simulation
         .step_until(&services(), 10.0, 1000, &mut rows);
     let report = ran.report;
-    say::text(b"by value until 10: ");
-    say::report(report);
-    say::words(b"  rows", &rows);
-    show(ran.simulation);
+    say::text(rt, b"by value until 10: ")?;
+    say::report(rt, report)?;
+    say::words(rt, b"  rows", &rows)?;
+    show(rt, ran.simulation)
 }
 
 // A refused post hands back the simulation of the empty table.
-fn refused_value() {
+fn refused_value(rt: &impl Print) -> io::Result<()> {
     let none = [0u64; 0];
     let row = [0u64; 10];
     let posted = Simulation::post(&row, &none, &none);
     let answer = posted.answer;
-    say::text(b"by value, a bad row: ");
-    say::answer(answer);
-    show(posted.simulation);
+    say::text(rt, b"by value, a bad row: ")?;
+    say::answer(rt, answer)?;
+    show(rt, posted.simulation)
 }
 
-fn main() {
+fn main(rt: HostRuntime) -> io::Result<()> {
     let mut state = [0u64; 1958];
-    post(&mut state);
-    inject(&mut state, 11);
-    inject(&mut state, 12);
-    inject(&mut state, 13);
-    say::words(b"  state", &state);
-    run_steps(&mut state);
-    post(&mut state);
-    inject(&mut state, 11);
-    inject(&mut state, 12);
-    inject(&mut state, 13);
-    run_until(&mut state);
-    run_value();
-    refused_value();
+    post(&rt, &mut state)?;
+    inject(&rt, &mut state, 11)?;
+    inject(&rt, &mut state, 12)?;
+    inject(&rt, &mut state, 13)?;
+    say::words(&rt, b"  state", &state)?;
+    run_steps(&rt, &mut state)?;
+    post(&rt, &mut state)?;
+    inject(&rt, &mut state, 11)?;
+    inject(&rt, &mut state, 12)?;
+    inject(&rt, &mut state, 13)?;
+    run_until(&rt, &mut state)?;
+    run_value(&rt)?;
+    refused_value(&rt)
 }

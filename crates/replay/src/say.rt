@@ -1,57 +1,59 @@
 // What the replay writes to standard output.
 use engine::{End, Report};
 use memory::Answer;
+use std::io;
 
-pub(crate) fn text(bytes: &[u8]) {
-    io::write_all(1, bytes);
+pub(crate) fn text(rt: &impl Print, bytes: &[u8]) -> io::Result<()> {
+    rt.write_all(bytes)
 }
 
-pub(crate) fn number(n: u64) {
-    io::print_decimal(1, n);
+pub(crate) fn number(rt: &impl Print, n: u64) -> io::Result<()> {
+    print!(rt; "{n}")
 }
 
-pub(crate) fn answer(answer: Answer) {
+pub(crate) fn answer(rt: &impl Print, answer: Answer) -> io::Result<()> {
     match answer {
-        Answer::Done => text(b"done\n"),
+        Answer::Done => text(rt, b"done\n"),
         Answer::Refused(refusal) => {
-            text(b"refused ");
-            number(rules::number(refusal) as u64);
-            text(b"\n");
+            text(rt, b"refused ")?;
+            number(rt, rules::number(refusal) as u64)?;
+            text(rt, b"\n")
         }
     }
 }
 
-pub(crate) fn report(report: Report) {
-    number(report.steps);
-    text(b" steps, ");
-    number(report.written as u64);
-    text(b" rows, ");
+pub(crate) fn report(rt: &impl Print, report: Report) -> io::Result<()> {
+    number(rt, report.steps)?;
+    text(rt, b" steps, ")?;
+    number(rt, report.written as u64)?;
+    text(rt, b" rows, ")?;
     let end = report.end;
     match end {
-        End::Done => text(b"done\n"),
-        End::Reached => text(b"reached\n"),
-        End::Spent => text(b"spent\n"),
-        End::Refused(refusal) => answer(Answer::Refused(refusal)),
+        End::Done => text(rt, b"done\n"),
+        End::Reached => text(rt, b"reached\n"),
+        End::Spent => text(rt, b"spent\n"),
+        End::Refused(refusal) => answer(rt, Answer::Refused(refusal)),
     }
 }
 
 // A word that is not 0, with its place.
-fn word(place: usize, value: u64) {
+fn word(rt: &impl Print, place: usize, value: u64) -> io::Result<()> {
     if value != 0 {
-        text(b" ");
-        number(place as u64);
-        text(b"=");
-        io::print_hex(1, value, 1);
+        text(rt, b" ")?;
+        number(rt, place as u64)?;
+        text(rt, b"=")?;
+        print!(rt; "{value:x}")?;
     }
+    Ok(())
 }
 
 // Every word that is not 0, with its place.
-pub(crate) fn words(name: &[u8], words: &[u64]) {
-    text(name);
+pub(crate) fn words(rt: &impl Print, name: &[u8], words: &[u64]) -> io::Result<()> {
+    text(rt, name)?;
     let mut place = 0;
     while place < words.len() {
-        word(place, words[place]);
+        word(rt, place, words[place])?;
         place += 1;
     }
-    text(b"\n");
+    text(rt, b"\n")
 }
