@@ -77,7 +77,11 @@ loop-models-preserved c =
     let ten = row-is-long start models row room row-lent.1 in
     let long = replaced-length start 10 row models room ten in
     subst
-    (λ (z : List ℕ). invariant-loop first 0 0 z (c.loop-models.count + c.write_row-count.result) (start + 10))
+    (λ (z : List ℕ). (start + 10 ≤ length z)
+    × (length z ≡ length first)
+    × (c.loop-models.count + c.write_row-count.result ≤ start + 10)
+    × (c.loop-models.count + c.write_row-count.result + omitted_in (drop (start + 10) z) ≡ omitted_in first)
+    × (take (start + 10) z ++ written_out (drop (start + 10) z) ≡ written_out first))
     (sym (put_back start 10 models row)) (
       omega (arith, long, room),
       long ∙ c.loop-models.invariant.1,

@@ -1,0 +1,14 @@
+-- `holding::is_clear` meets its contract. The invariant: what is joined is 0 and the words from k on are exactly if all are. Assumes nothing.
+use Prim.Native.Nat.{ℕ, ◌-◌, ◌≤◌}
+use mathlib.Core.Path.{◌≡◌, sym, ◌∙◌}
+use lib.ListN.{length}
+use lib.Dec.{eqb}
+use Rattle.rules.specs.Base.{every}
+use Rattle.holding.specs.RowLaws.{each-is, joined_from, joined-over, joined-on}
+use Rattle.holding.proofs.is_clear.Given as goal
+
+abbrev pub invariant-loop-k : goal.invariant-loop-k
+invariant-loop-k l = (l.k ≤ length l.places) × (joined_from l.places l.joined l.k ≡ every (λ (w : ℕ). eqb w 0) l.places)
+
+abbrev pub decreases-loop-k : goal.decreases-loop-k
+decreases-loop-k l = length l.places - l.k

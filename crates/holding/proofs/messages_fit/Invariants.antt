@@ -1,0 +1,13 @@
+-- `holding::messages_fit` meets its contract. The invariant: the messages from k on fit exactly if all do. Assumes nothing.
+use Prim.Native.Nat.{◌-◌, ◌≤◌}
+use mathlib.Core.Path.{◌≡◌, sym, ◌∙◌}
+use borrow.Author.Tests.{not-true, not-false}
+use Rattle.marks.specs.SweepLaws.{begun}
+use Rattle.holding.specs.WholeLaws.{messages_from, messages-over, messages-stop, messages-on}
+use Rattle.holding.proofs.messages_fit.Given as goal
+
+abbrev pub invariant-loop-k : goal.invariant-loop-k
+invariant-loop-k l = (l.k ≤ l.count) × (messages_from l.at l.mem l.k (l.count - l.k) ≡ messages_from l.at l.mem 0 l.count)
+
+abbrev pub decreases-loop-k : goal.decreases-loop-k
+decreases-loop-k l = l.count - l.k

@@ -1,0 +1,16 @@
+-- `holding::rows_end` meets its contract. The invariant: the next row's own words begin where those before it end, and the rows from there on stand exactly if all do. Assumes nothing.
+use Prim.Native.Nat.{◌-◌, ◌≤◌}
+use mathlib.Core.Path.{◌≡◌, sym, ap, ◌∙◌}
+use native.Mathlib.Omega.{arith}
+use Rattle.lookup.specs.Inside.{table_in}
+use Rattle.views.specs.World.{begin_of}
+use Rattle.marks.specs.SweepLaws.{begun}
+use Rattle.holding.specs.Fitting.{rows_from, rows_stand}
+use Rattle.holding.specs.WholeLaws.{begin-room, rows-over, rows-stop, rows_on, rows-bad, rows-good}
+use Rattle.holding.proofs.rows_end.Given as goal
+
+abbrev pub invariant-loop-row : goal.invariant-loop-row
+invariant-loop-row l = (l.row ≤ l.rows) × (l.begin ≡ begin_of (table_in l.state) l.row) × (rows_from (table_in l.state) l.mem l.row (l.rows - l.row) ≡ rows_stand (table_in l.state) l.mem)
+
+abbrev pub decreases-loop-row : goal.decreases-loop-row
+decreases-loop-row l = l.rows - l.row

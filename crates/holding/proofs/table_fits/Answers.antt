@@ -1,0 +1,43 @@
+-- `holding::table_fits` meets its contract: the counts, the length, and what intake answers. Assumes nothing.
+use Rattle.holding.specs.WholeLaws.{table-short, many-rows, many-connectors, many-couplings, table-cut, table-says}
+use Rattle.holding.proofs.table_fits.Goals as goal
+
+pub returns-then-state-lt1542 : goal.returns-then-state-lt1542
+returns-then-state-lt1542 c =
+    table-short c.args.state.now c.if-state-lt1542.true
+
+pub returns-then-state-gt64 : goal.returns-then-state-gt64
+returns-then-state-gt64 c =
+    many-rows c.args.state.now c.if-state-gt64.true
+
+pub returns-then-state-gt256 : goal.returns-then-state-gt256
+returns-then-state-gt256 c =
+    many-connectors c.args.state.now c.if-state-gt64.false c.if-state-gt256.true
+
+pub returns-then-state-gt256-2 : goal.returns-then-state-gt256-2
+returns-then-state-gt256-2 c =
+    many-couplings c.args.state.now c.if-state-gt64.false c.if-state-gt256.false c.if-state-gt256-2.true
+
+pub returns-then-state-tail : goal.returns-then-state-tail
+returns-then-state-tail c =
+    table-cut c.args.state.now c.if-state-tail.true
+
+pub returns-in-Passed : goal.returns-in-Passed
+returns-in-Passed c =
+    table-says c.args.state.now c.if-state-tail.false c.intake.result _ c.intake.ensures c.in-Passed.is
+
+pub returns-in-TooLarge : goal.returns-in-TooLarge
+returns-in-TooLarge c =
+    table-says c.args.state.now c.if-state-tail.false c.intake.result _ c.intake.ensures c.in-TooLarge.is
+
+pub returns-in-BadRow : goal.returns-in-BadRow
+returns-in-BadRow c =
+    table-says c.args.state.now c.if-state-tail.false c.intake.result _ c.intake.ensures c.in-BadRow.is
+
+pub returns-in-BadConnector : goal.returns-in-BadConnector
+returns-in-BadConnector c =
+    table-says c.args.state.now c.if-state-tail.false c.intake.result _ c.intake.ensures c.in-BadConnector.is
+
+pub returns-in-BadCoupling : goal.returns-in-BadCoupling
+returns-in-BadCoupling c =
+    table-says c.args.state.now c.if-state-tail.false c.intake.result _ c.intake.ensures c.in-BadCoupling.is
