@@ -5,35 +5,31 @@ use native.Mathlib.Omega.{arith}
 use lib.Dec.{leb, eqb}
 use borrow.Author.Tests.{le-leb, lt-leb}
 use Rattle.rules.specs.Ends.{one}
-use Rattle.trace_blocks.proofs.count_fits.Statement.{statement}
-use Rattle.trace_blocks.proofs.count_fits.Tie as tie
+use Rattle.trace_blocks.proofs.count_fits.Goals as goal
 
-returns : tie.Need-returns
-returns c =
-    let a = c.before.args in
+pub returns-then-count-lt1 : goal.returns-then-count-lt1
+returns-then-count-lt1 c =
+    let a = c.args in
     let few : leb 1 a.count ≡ false = lt-leb 1 a.count (omega arith) in
     rw few
 
-returns-2 : tie.Need-returns-2
-returns-2 c =
-    let a = c.before.before.args in
+pub returns-then-most-count : goal.returns-then-most-count
+returns-then-most-count c =
+    let a = c.args in
     let some : leb 1 a.count ≡ true = le-leb 1 a.count (omega arith) in
     let many : leb a.count a.kind.most ≡ false = lt-leb a.count a.kind.most (omega arith) in
     rw (some, many)
 
-returns-3 : tie.Need-returns-3
-returns-3 c =
-    let a = c.before.before.before.args in
+pub returns-then-ends : goal.returns-then-ends
+returns-then-ends c =
+    let a = c.args in
     let some : leb 1 a.count ≡ true = le-leb 1 a.count (omega arith) in
     let fits : leb a.count a.kind.most ≡ true = le-leb a.count a.kind.most (omega arith) in
-    rw (some, fits, c.if3.true)
+    rw (some, fits, c.if-ends.true)
 
-returns-4 : tie.Need-returns-4
-returns-4 c =
-    let a = c.before.before.before.args in
+pub returns : goal.returns
+returns c =
+    let a = c.args in
     let some : leb 1 a.count ≡ true = le-leb 1 a.count (omega arith) in
     let fits : leb a.count a.kind.most ≡ true = le-leb a.count a.kind.most (omega arith) in
-    rw (some, fits, c.if3.false) (sym (one (eqb a.count a.kind.most)))
-
-pub count-fits-spec : {M : Type 1} → statement M
-count-fits-spec = tie.close (tie.spec returns returns-2 returns-3 returns-4)
+    rw (some, fits, c.if-ends.false) (sym (one (eqb a.count a.kind.most)))
