@@ -73,6 +73,7 @@ all_both nil nil = nil
 all_both (p & ps) (q & qs) = (p, q) & all_both ps qs
 
 all-at : {P : ℕ → Type 0} {x : ℕ} {xs : List ℕ} → All P xs → Among x xs → P x
+all-at {P = P} nil x4 = elim x4 [ ]
 all-at (p & ps) first = p
 all-at (p & ps) (further a) = all-at ps a
 
