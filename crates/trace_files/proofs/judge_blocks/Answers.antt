@@ -2,7 +2,7 @@
 use native.Mathlib.Omega.{arith}
 use lib.ListN.{length}
 use Rattle.trace_files.specs.PieceLaws.{piece_inside}
-use Rattle.trace_files.specs.ReadLoop.{judging-start, judging-cut, judging-told, judging-full, judging-more, judging-end}
+use Rattle.trace_files.proofs.ReadLoop.{judging-start, judging-cut, judging-told, judging-full, judging-more, judging-end}
 use Rattle.trace_files.proofs.judge_blocks.Goals as goal
 
 pub loop-i-init : goal.loop-i-init

@@ -1,6 +1,6 @@
 -- `trace_files::judge_blocks` meets its contract. The loop's invariant: the rows so far stand before the answer of the blocks from block i on. Assumes nothing.
 use Prim.Native.Nat.{◌-◌}
-use Rattle.trace_files.specs.ReadLoop.{Judging}
+use Rattle.trace_files.proofs.ReadLoop.{Judging}
 use Rattle.trace_files.proofs.judge_blocks.Given as goal
 
 abbrev pub invariant-loop-i : goal.invariant-loop-i

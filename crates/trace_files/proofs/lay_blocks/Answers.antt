@@ -2,7 +2,7 @@
 use native.Mathlib.Nat.{div-le_self}
 use native.Mathlib.Omega.{arith}
 use lib.ListN.{length}
-use Rattle.trace_files.specs.ReadLoop.{laying-start, laying-turn, laying-from, laying-fits, laying-to, laying-same, laying-more, laying-end}
+use Rattle.trace_files.proofs.ReadLoop.{laying-start, laying-turn, laying-from, laying-fits, laying-to, laying-same, laying-more, laying-end}
 use borrow.Author.Rules.{rules}
 use Rattle.trace_files.proofs.lay_blocks.Goals as goal
 

@@ -5,8 +5,8 @@ use lib.ListN.{length}
 use Rattle.trace_files.specs.Files.{rows_after}
 use Rattle.trace_files.specs.Answers.{read_is}
 use Rattle.trace_blocks.specs.BlockLaws.{kind-is}
-use Rattle.trace_files.specs.ReadLoop.{rest}
-use Rattle.trace_files.specs.ReadTests.{past_end, in-file, rows-read, bad-keeps, full-keeps}
+use Rattle.trace_files.proofs.ReadLoop.{rest}
+use Rattle.trace_files.proofs.ReadTests.{past_end, in-file, rows-read, bad-keeps, full-keeps}
 use Rattle.trace_files.proofs.read_kind.Goals as goal
 
 pub returns-then-file-start : goal.returns-then-file-start

@@ -8,7 +8,7 @@ use Rattle.trace_files.specs.declared.Read.{Read}
 use Rattle.trace_files.specs.declared.Read.TheVariants.{Rows, BadBlock, NoRoom}
 use Rattle.trace_files.specs.Files.{Reading, read, bad_block, no_room, read_trace, rows_after}
 use Rattle.trace_files.specs.Answers.{is_read, read_is}
-use Rattle.trace_files.specs.ReadLoop.{rest}
+use Rattle.trace_files.proofs.ReadLoop.{rest}
 
 module _ (kind : BlockKind) (file : List ℕ) (start room : ℕ) where
   pub past_end : length file / 512 < start → read_trace kind file start room ≡ bad_block start

@@ -13,7 +13,7 @@ use Rattle.trace_blocks.specs.Blocks.{block_bytes, sum, count_in, rows_in}
 use Rattle.trace_blocks.specs.WordLaws.{sum-append, from_parts}
 use Rattle.trace_files.specs.Files.{joined, Reading, read, bad_block, no_room, block_at, is_good, before, read_blocks, blocks_in, read_trace}
 use Rattle.trace_files.specs.PieceLaws.{piece_inside, pieces-all}
-use Rattle.trace_files.specs.ReadTests.{past_end, in-file}
+use Rattle.trace_files.proofs.ReadTests.{past_end, in-file}
 
 -- ---- the blocks of a file from `start` to before `stop`: how many rows they say that they have, their rows, and that they are good
 abbrev pub count_to : (file : List ℕ) → (start stop : ℕ) → ℕ
