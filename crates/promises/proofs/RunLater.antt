@@ -19,7 +19,8 @@ use Rattle.rules.specs.Valid.{is_valid}
 use Rattle.rules.specs.Calls.{Reached, Ran, ended, then_ran, onward, look, steps_until, step_until}
 use Rattle.rules.specs.Ends.{Ends, goes, ends-map}
 use Rattle.rules.specs.Runs.{Valid, valid-of, step-ends, NotTwenty, any-closed, step_until-valid}
-use Rattle.promises.specs.RunOn.{joined, room_left, run_on_after, collected, join-then, less-rows, reached-not, looks, Judged, judge, fine, bad, bad-state-again, until-on}
+use Rattle.promises.specs.RunOn.{joined, room_left, run_on_after, collected}
+use Rattle.promises.proofs.RunOn.{join-then, less-rows, reached-not, looks, Judged, judge, fine, bad, bad-state-again, until-on}
 
 -- ---- a clock below `early` is below `later`
 below_both : (clock early later : Float) → T (is_time clock) → T (is_time early) → T (is_time later) → T (le early later) → T (lt clock early) → T (lt clock later)

@@ -22,7 +22,7 @@ use Rattle.rules.specs.Depth.{Fine, fine}
 use Rattle.rules.specs.Worlds.{world_of}
 use Rattle.rules.specs.Runs.{Valid, valid-of, step-ends, CallFits, Carried, calls-keeps, begun-valid, fresh_at, put-valid, post-valid}
 use Rattle.promises.specs.Story.{Event, Accepted, history, joined, accepted, releases, released, after_event, state_then, Lawful, Moment, Acceptance, ahead, event_number, place_in_it, Comes, event_at, Leaves, BeginsFresh, CapacityNone, SixElsewhere, happened, left_by, Demand, advances_until, Within, AcceptsWithRoom, Beyond, OfAll}
-use Rattle.promises.specs.Six.{six-elsewhere}
+use Rattle.promises.proofs.Six.{six-elsewhere}
 use Rattle.promises.specs.Machine.{Sized, Shape, Sound, fresh-sound, NoRoom, Took, accept-ends, accept-takes, history-sound, conserved, Goes, goes_in, counts-down, history-append, lawful-split, Lived, Told, this-row, row_sized, lived-sound, ToldIn, told-closed}
 
 -- a batcher's default state, as a test
