@@ -11,7 +11,8 @@ use Rattle.rules.specs.Examples.{four, batch}
 use Rattle.rules.specs.Ends.{All, nil, ◌&◌}
 use Rattle.rules.specs.Runs.{CallFits}
 use Rattle.promises.specs.Story.{Demand}
-use Rattle.promises.proofs.Demand3.{begun_fresh, demand-3, of-all}
+use Rattle.promises.specs.Demand3.{begun_fresh}
+use Rattle.promises.proofs.Demand3.{demand-3, of-all}
 use Rattle.promises.specs.Cases.{one, pair, stepped, busy, growing, handed_in, besides, of_two, of_three, at_13, at_21, at_23, at_11, after_11, at_11_beside, Applied}
 
 one_passes : T (passes_intake one)

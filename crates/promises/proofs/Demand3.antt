@@ -11,8 +11,8 @@ use Rattle.rules.specs.declared.BatcherPhase.TheVariants as batching
 use Rattle.rules.specs.declared.Batcher.{Batcher}
 use Rattle.rules.specs.Base.{Outcome, refused, done}
 use Rattle.rules.specs.Table.{Kind, batcher, Table, kind_at}
-use Rattle.rules.specs.Intake.{Posted, intake, taken_in, passes_intake}
-use Rattle.rules.specs.Simulation.{BatcherState, State, of_processor, of_batcher, of_stopwatch, of_coupled, Simulation, fresh, fresh_all, fresh_batcher, begun, state_at, as_batcher}
+use Rattle.rules.specs.Intake.{Posted, intake, taken_in}
+use Rattle.rules.specs.Simulation.{BatcherState, State, of_processor, of_batcher, of_stopwatch, of_coupled, Simulation, fresh, fresh_all, fresh_batcher, state_at, as_batcher}
 use Rattle.rules.specs.Models.{Kept, batcher_external}
 use Rattle.rules.specs.Step.{Happening, came, World, external_as, external}
 use Rattle.rules.specs.Calls.{post, put, Call}
@@ -20,8 +20,9 @@ use Rattle.rules.specs.Valid.{is_valid}
 use Rattle.rules.specs.Ends.{All, Ends, stops, goes, ends-if, ends-bind, ends-map, ends-refused, Whatever, ends-whatever, ends-done}
 use Rattle.rules.specs.Depth.{Fine, fine}
 use Rattle.rules.specs.Worlds.{world_of}
-use Rattle.rules.specs.Runs.{Valid, valid-of, step-ends, CallFits, Carried, calls-keeps, begun-valid, fresh_at, put-valid, post-valid}
+use Rattle.rules.specs.Runs.{Valid, valid-of, step-ends, CallFits, Carried, calls-keeps, fresh_at, put-valid, post-valid}
 use Rattle.promises.specs.Story.{Event, Accepted, history, joined, accepted, releases, released, after_event, state_then, Lawful, Moment, Acceptance, ahead, event_number, place_in_it, Comes, event_at, Leaves, BeginsFresh, CapacityNone, SixElsewhere, happened, left_by, Demand, advances_until, Within, AcceptsWithRoom, Beyond, OfAll}
+use Rattle.promises.specs.Demand3.{AllFresh}
 use Rattle.promises.proofs.Six.{six-elsewhere}
 use Rattle.promises.specs.Machine.{Sized, Shape, Sound, fresh-sound, NoRoom, Took, accept-ends, accept-takes, history-sound, conserved, Goes, goes_in, counts-down, history-append, lawful-split, Lived, Told, this-row, row_sized, lived-sound, ToldIn, told-closed}
 
@@ -57,14 +58,7 @@ began start i = is_fresh (state_at start.states i)
 pub began-so : (start : Simulation) (i : ℕ) → BeginsFresh start i → T (began start i)
 began-so start i e = subst (λ (s : State). T (is_fresh s)) (sym e) tt
 
--- ---- what `post` and `put` leave: every model is in its default state
-pub record AllFresh (start : Simulation) : Type 0 where
-  pub valid : Valid start
-  pub default : start.states ≡ fresh_all start.table
-
-pub begun_fresh : (t : Table) → T (passes_intake t) → AllFresh (begun t)
-begun_fresh t f = record { valid = begun-valid t f; default = refl }
-
+-- ---- what `post` and `put` leave
 -- so every batcher in it begins
 pub fresh-begins : (start : Simulation) → AllFresh start → (row : ℕ) (b : Batcher) → kind_at start.table row ≡ batcher b → BeginsFresh start row
 fresh-begins start h row b e = ap (λ (z : List State). state_at z row) h.default ∙ fresh_at start.table row ∙ ap fresh e

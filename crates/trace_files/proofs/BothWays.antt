@@ -21,7 +21,8 @@ use Rattle.trace_files.specs.Cutting.{map-shift, cut-joined, Even, joined-part, 
 use Rattle.trace_files.specs.KindLaws.{full-some}
 use Rattle.trace_files.specs.FileLaws.{file-long, blocks-written, block-there, Traceable, rows-count, number-low, part-full, part-fills, part_small}
 use Rattle.trace_files.specs.WriteLaws.{whole-count, whole-already, done-exactly}
-use Rattle.trace_files.proofs.ReadLaws.{count_to, rows_to, GoodTo, Whole, read-exactly}
+use Rattle.trace_files.specs.ReadLaws.{count_to, rows_to, GoodTo, Whole}
+use Rattle.trace_files.proofs.ReadLaws.{read-exactly}
 
 pub or-rest : (a b : Bool) → T (a || b) → (T a → ⊥) → T b
 or-rest a b t n = elim (or_split a b t) [ inl u ↦ absurd (n u) | inr u ↦ u ]

@@ -15,7 +15,8 @@ use Rattle.trace_blocks.specs.BlockLaws.{Good, good-decides, one-word-found, cha
 use Rattle.trace_files.specs.Files.{pieces, full_of, part_of, joined, file_from, read, bad_block, block_at, ends_file, is_good, blocks_in, read_trace}
 use Rattle.trace_files.specs.PieceLaws.{piece_inside}
 use Rattle.trace_files.specs.Cutting.{pieces-above, pieces-full, map-shift, cut-joined, drop-take}
-use Rattle.trace_files.proofs.ReadLaws.{count_to, rows_to, GoodTo, count-both, bad-exactly, read-exactly}
+use Rattle.trace_files.specs.ReadLaws.{count_to, rows_to, GoodTo, count-both}
+use Rattle.trace_files.proofs.ReadLaws.{bad-exactly, read-exactly}
 use Rattle.trace_files.proofs.BothWays.{or-rest, good-block, whole-blocks, full-before, read-begins, read_whole, rows-of-block, again-from, bytes-taken, bytes-at}
 
 untrue : {b : Bool} → b ≡ false → T (not b)

@@ -3,67 +3,17 @@ use Prim.Native.Nat.{ℕ, zero, suc, ◌+◌, ◌-◌, ◌*◌, ◌≤◌, ◌<�
 use Rattle.std.specs.Prelude.{◌≡◌, refl, ◌↔◌, ◌⊎◌, Bool, true, false, not, length, T, leb}
 use Rattle.std.proofs.Math.Path.{sym, ap}
 use Rattle.std.proofs.Common.{subst, ◌∙◌, inl, inr, T_not, leb→le}
-use mathlib.Core.List.{List, [], ◌∷◌, ◌++◌, map}
+use mathlib.Core.List.{List, ◌++◌, map}
 use Rattle.std.proofs.Math.Decide.{dec_le}
 use native.Mathlib.Omega.{arith}
 use Rattle.std.proofs.Math.Dec.{nleb→lt}
-use Rattle.rules.specs.Base.{if◌then◌else◌, from}
+use Rattle.rules.specs.Base.{if◌then◌else◌}
 use Rattle.trace_blocks.specs.declared.BlockKind.{BlockKind}
 use Rattle.trace_blocks.specs.Blocks.{block_bytes, sum, count_in, rows_in}
-use Rattle.trace_blocks.specs.WordLaws.{sum-append, from_parts}
 use Rattle.trace_files.specs.Files.{joined, Reading, read, bad_block, no_room, block_at, is_good, before, read_blocks, blocks_in, read_trace}
 use Rattle.trace_files.specs.PieceLaws.{piece_inside, pieces-all}
 use Rattle.trace_files.proofs.ReadTests.{past_end, in-file}
-
--- ---- the blocks of a file from `start` to before `stop`: how many rows they say that they have, their rows, and that they are good
-abbrev pub count_to : (file : List ℕ) → (start stop : ℕ) → ℕ
-count_to file start stop = sum (map (λ i. count_in (block_at file i)) (from start (stop - start)))
-
-abbrev pub rows_to : BlockKind → (file : List ℕ) → (start stop : ℕ) → List ℕ
-rows_to kind file start stop = joined (map (λ i. rows_in kind (block_at file i)) (from start (stop - start)))
-
-abbrev pub GoodTo : BlockKind → (file : List ℕ) → (start stop : ℕ) → Type 0
-GoodTo kind file start stop = (i : ℕ) → start ≤ i → i < stop → T (is_good kind file i)
-
-pub from_next : (start stop : ℕ) → start < stop → from start (stop - start) ≡ start ∷ from (suc start) (stop - suc start)
-from_next start stop l = let e : stop - start ≡ suc (stop - suc start) = omega arith in ap (from start) e
-
-pub from-none : (start stop : ℕ) → stop ≤ start → from start (stop - start) ≡ []
-from-none start stop l = let e : stop - start ≡ 0 = omega arith in ap (from start) e
-
-pub map-to : {A : Type 0} (f : ℕ → A) (start i stop : ℕ) → start ≤ i → i ≤ stop → map f (from start (stop - start)) ≡ map f (from start (i - start)) ++ map f (from i (stop - i))
-map-to {A} f start i stop a b =
-    let e : stop - start ≡ (i - start) + (stop - i) = omega arith in
-    let g : start + (i - start) ≡ i = omega arith in
-    ap (λ (n : ℕ). map f (from start n)) e ∙ from_parts f start (i - start) (stop - i) ∙ ap (λ (k : ℕ). map f (from start (i - start)) ++ map f (from k (stop - i))) g
-
-pub count-both : (file : List ℕ) (start i stop : ℕ) → start ≤ i → i ≤ stop → count_to file start stop ≡ count_to file start i + count_to file i stop
-count-both file start i stop a b =
-    let count : ℕ → ℕ = λ k. count_in (block_at file k) in
-    ap sum (map-to count start i stop a b) ∙ sum-append (map count (from start (i - start))) (map count (from i (stop - i)))
-
--- ---- the three ways in which a reading of these blocks ends
--- all are good, and their rows fit
-pub record Whole (kind : BlockKind) (file : List ℕ) (start stop room : ℕ) (rows : List ℕ) : Type 0 where
-  pub goods : GoodTo kind file start stop
-  pub fits : count_to file start stop ≤ room
-  pub these : rows ≡ rows_to kind file start stop
-
--- block i is the first that is bad, and the rows before it fit
-pub record FirstBad (kind : BlockKind) (file : List ℕ) (start stop room i : ℕ) : Type 0 where
-  pub behind : start ≤ i
-  pub inside : i < stop
-  pub goods : GoodTo kind file start i
-  pub fits : count_to file start i ≤ room
-  pub bad : T (not (is_good kind file i))
-
--- the blocks up to i, and i too, are good, and its rows are the first that do not fit
-pub record FirstFull (kind : BlockKind) (file : List ℕ) (start stop room i : ℕ) : Type 0 where
-  pub behind : start ≤ i
-  pub inside : i < stop
-  pub goods : GoodTo kind file start (suc i)
-  pub fits : count_to file start i ≤ room
-  pub over : room < count_to file start (suc i)
+use Rattle.trace_files.specs.ReadLaws.{count_to, rows_to, GoodTo, from_next, from-none, count-both, Whole, FirstBad, FirstFull}
 
 data Ended (kind : BlockKind) (file : List ℕ) (start stop room : ℕ) : Reading → Type 0 where
   whole : {rows : List ℕ} → Whole kind file start stop room rows → Ended kind file start stop room (read rows)

@@ -8,4 +8,5 @@ pub mod WriteLoop
 pub mod WriteTests
 pub mod FileLaws
 pub mod WriteLaws
+pub mod ReadLaws
 pub mod FileExamples
