@@ -7,7 +7,6 @@ use Rattle.bench_words.specs.Splitting.{lines_of}
 use Rattle.bench_lines.specs.declared.Fault.{Fault}
 use Rattle.bench_lines.specs.declared.Fault.TheVariants.{Fine, Wrong}
 use Rattle.bench_lines.specs.declared.Said.{Said}
-use Rattle.bench_lines.specs.declared.Said.TheVariants as Said
 use Rattle.bench_lines.specs.Reading.{read_line}
 use Rattle.bench_lines.specs.LineLaws.{cells-ten}
 use Rattle.bench_file.specs.declared.Counts.{Counts}

@@ -9,11 +9,9 @@ use Rattle.bench_lines.specs.declared.Wanted.TheVariants.{NoMore}
 use Rattle.bench_lines.specs.declared.Fault.{Fault}
 use Rattle.bench_lines.specs.declared.Fault.TheVariants.{Fine, Wrong}
 use Rattle.bench_lines.specs.declared.Said.{Said}
-use Rattle.bench_lines.specs.declared.Said.TheVariants as Said
 use Rattle.bench_lines.specs.Reading.{only, read_line}
 use Rattle.bench_file.specs.declared.Counts.{Counts}
 use Rattle.bench_file.specs.declared.Reading.{Reading}
-use Rattle.bench_file.specs.declared.Reading.TheVariants as Reading
 use Rattle.bench_file.specs.declared.Page.{Page}
 use Rattle.bench_file.specs.declared.Page.TheVariants.{Models, Connectors, Couplings, Services, Actions, Flag}
 use Rattle.bench_file.specs.declared.Filed.{Filed}

@@ -9,12 +9,10 @@ use Rattle.bench_lines.specs.declared.Expected.{Expected}
 use Rattle.bench_lines.specs.declared.Fault.{Fault}
 use Rattle.bench_lines.specs.declared.Fault.TheVariants.{Fine, Wrong}
 use Rattle.bench_lines.specs.declared.Said.{Said}
-use Rattle.bench_lines.specs.declared.Said.TheVariants as Said
 use Rattle.bench_lines.specs.Reading.{read_line}
 use Rattle.bench_lines.specs.LineLaws.{cells-ten}
 use Rattle.bench_file.specs.declared.Counts.{Counts}
 use Rattle.bench_file.specs.declared.Reading.{Reading}
-use Rattle.bench_file.specs.declared.Reading.TheVariants as Reading
 use Rattle.bench_file.specs.declared.Page.{Page}
 use Rattle.bench_file.specs.declared.Page.TheVariants.{Models, Connectors, Couplings, Services, Actions, Flag}
 use Rattle.bench_file.specs.Filing.{Pages, Filing, page_of, has_room, put_row, count_of, placed, file_in, file_said, after, read_from, no_rows, body_of, read_file, same_page, is_on, left_after, line_in, line_of}

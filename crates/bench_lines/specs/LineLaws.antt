@@ -15,7 +15,6 @@ use Rattle.bench_lines.specs.declared.Expected.{Expected}
 use Rattle.bench_lines.specs.declared.Field.{Field}
 use Rattle.bench_lines.specs.declared.Line.{Line}
 use Rattle.bench_lines.specs.declared.Named.{Named}
-use Rattle.bench_lines.specs.declared.Named.TheVariants as Named
 use Rattle.bench_lines.specs.Names.{word_text}
 use Rattle.bench_lines.specs.Forms.{start_of, form_of, fields_in, item_named, items}
 use Rattle.bench_lines.specs.Reading.{Course, on, failed, is_end, has_word, value_of, kept, taken, value_in, left_out, after_in, read_field, go_on, read_fields, column_at, line_of, read_item, read_words, read_line}

@@ -19,10 +19,8 @@ use Rattle.bench_lines.specs.declared.Fault.TheVariants.{Fine, Wrong}
 use Rattle.bench_lines.specs.declared.Field.{Field}
 use Rattle.bench_lines.specs.declared.Progress.{Progress}
 use Rattle.bench_lines.specs.declared.Said.{Said}
-use Rattle.bench_lines.specs.declared.Said.TheVariants as Said
 use Rattle.bench_lines.specs.declared.Line.{Line}
 use Rattle.bench_lines.specs.declared.Named.{Named}
-use Rattle.bench_lines.specs.declared.Named.TheVariants as Named
 use Rattle.bench_lines.specs.Names.{word_text}
 use Rattle.bench_lines.specs.Forms.{start_of, form_of, fields_in, item_named, items}
 

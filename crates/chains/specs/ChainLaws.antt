@@ -34,8 +34,9 @@ use Rattle.posting.specs.WholeLaws.{room_for}
 use Rattle.simulation.specs.CallLaws as call
 use Rattle.host.specs.Numbers.{number_of, end_number}
 use Rattle.promises.specs.Story.{state_then, BeginsFresh, CapacityNone, left_by}
-use Rattle.promises.specs.Demand3.{AllFresh, fresh-begins, capacity-alone, post-fresh, put-fresh, demanded, beyond}
-use Rattle.promises.specs.Six.{six-elsewhere}
+use Rattle.promises.specs.Demand3.{AllFresh}
+use Rattle.promises.proofs.Demand3.{fresh-begins, capacity-alone, post-fresh, put-fresh, demanded, beyond}
+use Rattle.promises.proofs.Six.{six-elsewhere}
 use Rattle.chains.specs.Chain.{after, returned, told, chain, chain_told, after_post, returned_by_post, after_put, returned_by_put, BufferHolds, needed, ChainDemand, ChainOfAll}
 
 -- ---- a call keeps the table: an instance of `Runs.Carried`

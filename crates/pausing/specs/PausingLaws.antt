@@ -27,7 +27,8 @@ use Rattle.storing.specs.KeptLaws.{changing-long, kept-is, passes_on}
 use Rattle.storing.specs.ReadBack.{kept-stored}
 use Rattle.simulation.specs.CallLaws as call
 use Rattle.host.specs.Numbers.{end_number, end_word, reported, report_after}
-use Rattle.promises.specs.RunOn.{whole_end, joined, room_left, total, passes, run_on, refused-again}
+use Rattle.promises.specs.RunOn.{whole_end, joined, room_left, total}
+use Rattle.promises.proofs.RunOn.{passes, run_on, refused-again}
 use Rattle.pausing.specs.Pausing.{Made, jt_step_n, steps_told, rows_told, end_told, next_row, rest_of, unless_refused, as_one, jt_step_n_on, blank, jt_in_parts, state_end, up_to_end, Same, paused_after}
 
 -- ---- the answer for the whole: a refusal's number is not 0

@@ -17,10 +17,7 @@ use Rattle.rules.specs.Step.{out_at, Happening, came, went, waited, timer, exter
 use Rattle.rules.specs.Valid.{is_valid}
 use Rattle.rules.specs.Calls.{inject_input, steps, step_n, step, Call, InjectInput, Step, StepN, called, calls}
 use Rattle.rules.specs.Examples.{four, six, ten, row, within, a_batcher, a_processor, link, batch, release, no_batch, job, ending}
-use Rattle.rules.specs.Ends.{All, nil, ◌&◌}
-use Rattle.rules.proofs.Runs.{CallFits}
-use Rattle.promises.specs.Story.{accepted, releases, state_then, Moment, Acceptance, ahead, Leaves, happened, Demand, Within, AcceptsWithRoom}
-use Rattle.promises.specs.Demand3.{begun_fresh, demand-3, of-all}
+use Rattle.promises.specs.Story.{accepted, releases, state_then, Moment, Acceptance, ahead, Leaves, happened, Within, AcceptsWithRoom}
 
 -- ---- tables and calls
 abbrev pub table_of : List Row → List Coupling → Table
@@ -178,19 +175,8 @@ pub busy-log : happened (begun one) busy ≡ first ++ take_in 13 ∷ rest
 unfolding is_time is_timer least_of add sub lt le eq fits of_bits to_bits service processor_external processor_internal batcher_external batcher_internal stopwatch_external stopwatch_internal timer external internal step_on intake passes_intake is_valid inject_input steps step_n step called
 busy-log = refl
 
-one_passes : T (passes_intake one)
-unfolding is_time le fits of_bits to_bits intake passes_intake
-one_passes = tt
-
-busy-fits : All CallFits busy
-unfolding fits of_bits
-busy-fits = tt & tt & tt & tt & tt & tt & tt & tt & tt & tt & tt & nil
-
 abbrev pub of_two : Batcher
 of_two = record { input = 1; output = 2; max_batch_size = 2; max_batch_time = ten }
-
-busy-demand : Demand (begun one) busy 0 of_two
-busy-demand = (of-all (begun one) (begun_fresh one one_passes) busy busy-fits).demand 0 of_two refl
 
 -- 13 is accepted with 2 ahead, before anything is released
 abbrev pub at_13 : Acceptance 0 (happened (begun one) busy)
@@ -228,19 +214,8 @@ pub growing-log : happened (begun pair) (growing ++ stepped 1) ≡ takes instant
 unfolding is_time is_timer least_of add sub lt le eq fits of_bits to_bits service processor_external processor_internal batcher_external batcher_internal stopwatch_external stopwatch_internal timer external internal step_on intake passes_intake is_valid inject_input steps step_n step called
 growing-log = refl
 
-pair-passes : T (passes_intake pair)
-unfolding is_time le fits of_bits to_bits intake passes_intake
-pair-passes = tt
-
-growing-fits : All CallFits (growing ++ stepped 1)
-unfolding fits of_bits
-growing-fits = tt & tt & tt & tt & tt & tt & nil
-
 abbrev pub of_three : Batcher
 of_three = record { input = 1; output = 2; max_batch_size = 3; max_batch_time = ten }
-
-growing-demand : Demand (begun pair) (growing ++ stepped 1) 0 of_three
-growing-demand = (of-all (begun pair) (begun_fresh pair pair-passes) (growing ++ stepped 1) growing-fits).demand 0 of_three refl
 
 abbrev pub at_11 : Acceptance 0 (happened (begun pair) (growing ++ stepped 1))
 at_11 = record { before = []; clock = instant; port = 1; job = 11; later = meanwhile; all = growing-log }
@@ -256,17 +231,6 @@ after_it = waited instant ∷ waited four ∷ gives four 1 (91 ∷ []) ∷ waite
 pub beside-log : happened (handed_in (batch (91 ∷ []) four)) besides ≡ takes instant 0 11 ∷ after_it
 unfolding is_time is_timer least_of add sub lt le eq fits of_bits to_bits service processor_external processor_internal batcher_external batcher_internal stopwatch_external stopwatch_internal timer external internal step_on intake passes_intake is_valid inject_input steps step_n step called
 beside-log = refl
-
-handed-in-valid : T (is_valid (handed_in (batch (91 ∷ []) four)))
-unfolding is_time is_timer le fits of_bits to_bits intake passes_intake is_valid
-handed-in-valid = tt
-
-besides-fit : All CallFits besides
-unfolding fits of_bits
-besides-fit = tt & tt & nil
-
-beside-demand : Demand (handed_in (batch (91 ∷ []) four)) besides 0 of_two
-beside-demand = demand-3 (handed_in (batch (91 ∷ []) four)) handed-in-valid besides besides-fit 0 of_two refl refl
 
 abbrev pub at_11_beside : Acceptance 0 (happened (handed_in (batch (91 ∷ []) four)) besides)
 at_11_beside = record { before = []; clock = instant; port = 1; job = 11; later = after_it; all = beside-log }
@@ -285,22 +249,6 @@ pub record Applied : Type 0 where
   pub waits-11 : Within ten (instant ∷ four ∷ instant ∷ six ∷ [])
   -- beside a batcher that was handed in with a job, 11 leaves in its batcher's first event
   pub leaves-beside : Leaves ((11 ∷ []) ∷ []) 1 0 11 0
-
--- each by its theorem, not by looking at the run
-pub applied : Applied
-unfolding batcher_external
-applied = record {
-  ahead-13 = refl;
-  leaves-13 = busy-demand.leaves at_13 (omega arith);
-  ahead-21 = refl;
-  leaves-21 = busy-demand.leaves at_21 (omega arith);
-  ahead-23 = refl;
-  leaves-23 = busy-demand.leaves at_23 (omega arith);
-  held-11 = refl;
-  timely-11 = growing-demand.timely after_11 (omega arith);
-  waits-11 = ((of-all (begun pair) (begun_fresh pair pair-passes) (growing ++ stepped 1) growing-fits).beyond 0 of_three refl).one-batch-time at_11;
-  leaves-beside = beside-demand.leaves at_11_beside (omega arith);
-}
 
 -- ---- what each sentence shuts out: what a wrong batcher would do in such runs, against the sentence
 pub record ShutOut : Type 0 where

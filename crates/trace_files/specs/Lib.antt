@@ -6,11 +6,7 @@ pub mod PieceLaws
 pub mod KindLaws
 pub mod WriteLoop
 pub mod WriteTests
-pub mod ReadLoop
-pub mod ReadTests
 pub mod FileLaws
 pub mod WriteLaws
 pub mod ReadLaws
-pub mod BothWays
-pub mod Damage
 pub mod FileExamples

@@ -1,5 +1,5 @@
 -- What a writer answers, exactly: how many bytes, 13 and no other refusal; and that what is written in parts is what is written at once. Assumes nothing.
-use Rattle.std.specs.Prelude.{ℕ, ◌+◌, ◌-◌, ◌*◌, ◌/◌, ◌%◌, ◌≤◌, ◌<◌, ◌≡◌, ◌↔◌, ◌⊎◌, List, ◌++◌, length, take, T}
+use Rattle.std.specs.Prelude.{ℕ, ◌+◌, ◌*◌, ◌/◌, ◌%◌, ◌≤◌, ◌<◌, ◌≡◌, ◌↔◌, ◌⊎◌, List, ◌++◌, length, take, T}
 use Rattle.std.proofs.Common.{sym, ap, ◌∙◌, inl, inr, mul-div_cancel, mul_comm, mul_assoc, mul-add, add-mul, arith, length-append, take_all}
 use Rattle.std.proofs.Math.Nat.{mul-div_cancel_left, mul-add-div}
 use Rattle.std.proofs.Math.Decide.{dec_le}
