@@ -26,7 +26,8 @@ use Rattle.memory.specs.View.{out_of, outs_in}
 use Rattle.views.specs.World.{end_of, world_in, Ready, Frame, Moves, Does}
 use Rattle.views.specs.Messages.{Hands}
 use Rattle.views.specs.MessageLaws.{outs-read}
-use Rattle.views.proofs.Frames.{far-world, far-ready, frame_same, frame_then, frame-none}
+use Rattle.views.proofs.Frames.{frame_same, frame_then, frame-none}
+use Rattle.views.proofs.Outside.{far-world, far-ready}
 use Rattle.sweeps.specs.Sweeps.{Onward, onward-on, onward_stops, onward-end}
 use Rattle.handing.specs.Handing.{park_from, outs_from, Fills, Beside}
 

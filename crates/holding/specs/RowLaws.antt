@@ -1,5 +1,5 @@
 -- The laws of a row: what 20 asks of its words and of the state that they hold, by the tests of the code; and of loops that end at the first place that fails, or that join all places. Assumes nothing.
-use Rattle.std.specs.Prelude.{ℕ, zero, suc, ◌+◌, ◌-◌, ◌≤◌, ◌<◌, ◌^◌, ◌/◌, ◌%◌, ◌≡◌, refl, Bool, true, false, not, ◌&&◌, List, [], ◌∷◌, map, length, get_or, take, drop, leb, ltb, eqb, if◌then◌else◌}
+use Rattle.std.specs.Prelude.{ℕ, zero, suc, ◌+◌, ◌-◌, ◌≤◌, ◌<◌, ◌^◌, ◌/◌, ◌%◌, ◌≡◌, refl, Bool, true, false, not, ◌&&◌, List, [], ◌∷◌, map, length, get_or, take, drop, leb, eqb, if◌then◌else◌}
 use Rattle.std.proofs.Math.Path.{sym, ap, subst}
 use Rattle.std.proofs.Common.{◌∙◌, inl, inr, lt_of_not-le, length-drop, take_all, length-take-le, drop-cons, get_or-take, get_or-drop, eqb→eq, lt→ltb}
 use Rattle.std.proofs.Math.Nat.{sub-zero}

@@ -29,7 +29,7 @@ use Rattle.stepping.specs.Simulating.{clock_in, active_in, sim_in, Sound, Went}
 use Rattle.rerunning.specs.declared.Next.{Next}
 use Rattle.rerunning.specs.declared.Next.TheVariants as next
 use Rattle.rerunning.specs.Running.{tail_in, Stored, sim_of, reached, Completed, Goes, Arrives, Refuses, Nexts}
-use Rattle.views.proofs.Frames.{within-world, within-ready}
+use Rattle.views.proofs.Outside.{within-world, within-ready}
 
 -- ---- what was done is one thing, and is not refused
 abbrev simulation_of : Simulation → Outcome Simulation → Simulation

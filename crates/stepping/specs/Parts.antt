@@ -17,7 +17,8 @@ use Rattle.words.specs.SearchLaws.{search-hit}
 use Rattle.memory.specs.Words.{word_at, timer_in, Only}
 use Rattle.memory.specs.View.{outs_in, WordsFit}
 use Rattle.views.specs.World.{begin_of, end_of, states_in, world_in, Ready, Frame, Puts}
-use Rattle.views.proofs.Frames.{far-world, far-ready, frame_same}
+use Rattle.views.proofs.Frames.{frame_same}
+use Rattle.views.proofs.Outside.{far-world, far-ready}
 use Rattle.views.specs.Messages.{messages_in, Joins, Joined, Sent}
 use Rattle.views.specs.MessageLaws.{messages-same}
 use Rattle.model_events.specs.DueHere.{due-here}

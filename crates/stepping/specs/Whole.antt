@@ -27,7 +27,7 @@ use Rattle.rules.proofs.Exactly.{taken_none}
 use Rattle.memory.specs.declared.Answer.{Answer}
 use Rattle.memory.specs.Words.{word_at, place_in}
 use Rattle.views.specs.World.{end_of, states_in, world_in, Ready, Moves, Does}
-use Rattle.views.proofs.Frames.{far-world, far-ready}
+use Rattle.views.proofs.Outside.{far-world, far-ready}
 use Rattle.views.specs.Messages.{messages_in, Joins}
 use Rattle.views.specs.MessageLaws.{messages-same, messages-long}
 use Rattle.row_timers.specs.Passing.{Passed}

@@ -7,15 +7,14 @@ use Rattle.std.specs.Float.{binary64}
 use Rattle.std.specs.Float.Ieee.{of_bits}
 use Rattle.rules.specs.Table.{Kind, processor, batcher, stopwatch, coupled, Table, kind_at}
 use Rattle.rules.specs.Simulation.{State, of_processor, of_batcher, of_stopwatch, of_coupled, state_at}
-use Rattle.rules.specs.Step.{Happening, World}
-use Rattle.rules.proofs.Worlds.{Good}
+use Rattle.rules.specs.Step.{Happening}
 use Rattle.rules.specs.Ends.{All}
 use Rattle.words.specs.Queue.{queue_in}
 use Rattle.marks.specs.Jobs.{jobs_in}
 use Rattle.memory.specs.Words.{word_at, head_at, phase_in, timer_in, held_in, begin_in, width_of, own_in, Own}
 use Rattle.memory.specs.View.{working_of, batching_of, watching_of, parked_of, state_in, word_rules, WordsFit}
-use Rattle.memory.specs.Places.{own-reaching, own-reach, part_length}
-use Rattle.views.specs.World.{begin_of, end_of, state_of, states_in, world_in, Laid, Ready, Frame}
+use Rattle.memory.specs.Places.{own-reaching, own-reach}
+use Rattle.views.specs.World.{begin_of, end_of, state_of, states_in, world_in, Laid, Frame}
 use Rattle.views.proofs.WorldLayout.{begins-apart, begin-end, head-begin, states-long, state-is}
 
 -- ---- the row j, whose own words begin at b, is as it was
@@ -128,48 +127,18 @@ module _ (t : Table) (mem after : List ℕ) (reach : (j : ℕ) → j < length t.
       let e = begin-end t j l in
       row_same j (begin_of t j) (width_of (kind_at t j)) mem after (reach j l) (λ p from to. same p (omega arith) (omega arith)) (λ p from to. same p (omega arith) (omega arith))
 
-  same-laid : end_of t ≤ length after → Laid t mem → Laid t after
+  pub same-laid : end_of t ≤ length after → Laid t mem → Laid t after
   same-laid fits laid = record {
     room = fits;
     begins = λ j l. (each_same j l).begin ∙ laid.begins j l;
     words = λ j l. words_same (kind_at t j) (begin_of t j) mem after j (each_same j l) (laid.words j l);
   }
 
-  same-world : (log : List Happening) → world_in t after log ≡ world_in t mem log
+  pub same-world : (log : List Happening) → world_in t after log ≡ world_in t mem log
   same-world log = λ k. record { states = states k; place = same 2 (omega arith) (omega arith) k; log = log }
     where
       states : states_in t after ≡ states_in t mem
       states = states-are t after (states_in t mem) (states-long t mem) (λ j l. state-is t mem j l ∙ sym (state-same (kind_at t j) (begin_of t j) mem after j (each_same j l)))
-
-  same-ready : end_of t ≤ length after → Ready t mem → Ready t after
-  same-ready fits ready = record { laid = same-laid fits ready.laid; good = subst (λ (w : World). Good t w) (sym (same-world [])) ready.good }
-
--- a change outside of them
-module _ (t : Table) (mem after : List ℕ) (long : length after ≡ length mem) (same : (p : ℕ) → 2 ≤ p → p < end_of t → word_at after p ≡ word_at mem p) where
-  as_long : (j : ℕ) → j < length t.rows → length (own_in (begin_of t j) (width_of (kind_at t j)) after) ≡ length (own_in (begin_of t j) (width_of (kind_at t j)) mem)
-  as_long j l = own-reach (begin_of t j) (width_of (kind_at t j)) mem after long
-
-  pub far-laid : Laid t mem → Laid t after
-  far-laid laid = same-laid t mem after as_long same (let r = laid.room in omega (arith, long)) laid
-
-  pub far-world : (log : List Happening) → world_in t after log ≡ world_in t mem log
-  far-world = same-world t mem after as_long same
-
-  pub far-ready : Ready t mem → Ready t after
-  far-ready ready = same-ready t mem after as_long same (let r = ready.laid.room in omega (arith, long)) ready
-
--- the same words in a list of another length
-module _ (t : Table) (mem after : List ℕ) (room : end_of t ≤ length mem) (fits : end_of t ≤ length after) (same : (p : ℕ) → 2 ≤ p → p < end_of t → word_at after p ≡ word_at mem p) where
-  within : (j : ℕ) → j < length t.rows → length (own_in (begin_of t j) (width_of (kind_at t j)) after) ≡ length (own_in (begin_of t j) (width_of (kind_at t j)) mem)
-  within j l =
-      let e = begin-end t j l in
-      part_length (begin_of t j) (width_of (kind_at t j)) after (omega arith) ∙ sym (part_length (begin_of t j) (width_of (kind_at t j)) mem (omega arith))
-
-  pub within-world : (log : List Happening) → world_in t after log ≡ world_in t mem log
-  within-world = same-world t mem after within same
-
-  pub within-ready : Ready t mem → Ready t after
-  within-ready = same-ready t mem after within same fits
 
 -- ---- frames: of a change that is none, of two changes, and in a range that holds another
 pub frame_same : (t : Table) (lo hi : ℕ) (mem : List ℕ) → Frame t lo hi mem mem

@@ -1,11 +1,8 @@
 -- `holding::are_contents` meets its contract. The invariant: the words from k on pass exactly if all do. Assumes nothing.
-use Prim.Native.Nat.{◌-◌, ◌≤◌}
-use mathlib.Core.Path.{◌≡◌, sym, ◌∙◌}
-use lib.ListN.{length}
-use Rattle.rules.specs.Base.{every}
+use mathlib.Core.Path.{sym, ◌∙◌}
 use Rattle.rules.specs.Sizes.{is_content}
 use Rattle.marks.specs.SweepLaws.{content-low, content-high}
-use Rattle.holding.specs.RowLaws.{each_from, each-is, each_over, each-stops, each_on}
+use Rattle.holding.specs.RowLaws.{each-is, each_over, each-stops, each_on}
 use borrow.Author.Rules.{rules}
 use Rattle.holding.proofs.are_contents.Goals as goal
 

@@ -1,11 +1,10 @@
 -- `holding::are_contents` meets its contract. The invariant: the words from k on pass exactly if all do. Assumes nothing.
 use Prim.Native.Nat.{◌-◌, ◌≤◌}
-use mathlib.Core.Path.{◌≡◌, sym, ◌∙◌}
+use mathlib.Core.Path.{◌≡◌}
 use lib.ListN.{length}
 use Rattle.rules.specs.Base.{every}
 use Rattle.rules.specs.Sizes.{is_content}
-use Rattle.marks.specs.SweepLaws.{content-low, content-high}
-use Rattle.holding.specs.RowLaws.{each_from, each-is, each_over, each-stops, each_on}
+use Rattle.holding.specs.RowLaws.{each_from}
 use Rattle.holding.proofs.are_contents.Given as goal
 
 abbrev pub invariant-loop-k : goal.invariant-loop-k

@@ -1,6 +1,5 @@
 -- `holding::columns_clear` meets its contract: the places after the jobs, column by column. Assumes nothing.
 use mathlib.Core.Path.{sym, ◌∙◌}
-use borrow.Author.Tests.{not-true, not-false}
 use Rattle.holding.specs.RowLaws.{names-left, starts-left, columns-left}
 use Rattle.holding.proofs.columns_clear.Goals as goal
 

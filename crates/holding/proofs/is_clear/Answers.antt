@@ -1,10 +1,8 @@
 -- `holding::is_clear` meets its contract. The invariant: what is joined is 0 and the words from k on are exactly if all are. Assumes nothing.
-use Prim.Native.Nat.{ℕ, ◌-◌, ◌≤◌}
-use mathlib.Core.Path.{◌≡◌, sym, ◌∙◌}
-use lib.ListN.{length}
+use Prim.Native.Nat.{ℕ}
+use mathlib.Core.Path.{sym, ◌∙◌}
 use lib.Dec.{eqb}
-use Rattle.rules.specs.Base.{every}
-use Rattle.holding.specs.RowLaws.{each-is, joined_from, joined-over, joined-on}
+use Rattle.holding.specs.RowLaws.{each-is, joined-over, joined-on}
 use borrow.Author.Rules.{rules}
 use Rattle.holding.proofs.is_clear.Goals as goal
 

@@ -1,7 +1,6 @@
 -- `holding::is_state` meets its contract: the table, and then the changing part, are what 20 asks. Assumes nothing.
 use mathlib.Core.Path.{sym, ◌∙◌}
 use native.Mathlib.Omega.{arith}
-use borrow.Author.Tests.{not-true, not-false}
 use Rattle.holding.specs.WholeLaws.{table-not, inside_of, tail_within, tail-room, stored_is}
 use Rattle.holding.proofs.is_state.Goals as goal
 

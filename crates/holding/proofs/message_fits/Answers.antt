@@ -1,7 +1,6 @@
 -- `holding::message_fits` meets its contract: each way out is one of the tests. Assumes nothing.
 use mathlib.Core.Path.{sym, subst, ◌∙◌}
 use native.Mathlib.Omega.{arith}
-use borrow.Author.Tests.{not-true, not-false}
 use lib.Dec.{T}
 use Rattle.rules.specs.Decides.{is_false, message-decides}
 use Rattle.views.specs.Messages.{message_in}

@@ -1,7 +1,5 @@
 -- `holding::messages_fit` meets its contract. The invariant: the messages from k on fit exactly if all do. Assumes nothing.
-use Prim.Native.Nat.{◌-◌, ◌≤◌}
-use mathlib.Core.Path.{◌≡◌, sym, ◌∙◌}
-use borrow.Author.Tests.{not-true, not-false}
+use mathlib.Core.Path.{sym, ◌∙◌}
 use Rattle.marks.specs.SweepLaws.{begun}
 use Rattle.holding.specs.WholeLaws.{messages_from, messages-over, messages-stop, messages-on}
 use borrow.Author.Rules.{rules}

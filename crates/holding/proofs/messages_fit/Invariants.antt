@@ -1,9 +1,7 @@
 -- `holding::messages_fit` meets its contract. The invariant: the messages from k on fit exactly if all do. Assumes nothing.
 use Prim.Native.Nat.{◌-◌, ◌≤◌}
-use mathlib.Core.Path.{◌≡◌, sym, ◌∙◌}
-use borrow.Author.Tests.{not-true, not-false}
-use Rattle.marks.specs.SweepLaws.{begun}
-use Rattle.holding.specs.WholeLaws.{messages_from, messages-over, messages-stop, messages-on}
+use mathlib.Core.Path.{◌≡◌}
+use Rattle.holding.specs.WholeLaws.{messages_from}
 use Rattle.holding.proofs.messages_fit.Given as goal
 
 abbrev pub invariant-loop-k : goal.invariant-loop-k

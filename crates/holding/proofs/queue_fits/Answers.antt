@@ -1,6 +1,5 @@
 -- `holding::queue_fits` meets its contract: the jobs, and the places after them. Assumes nothing.
 use mathlib.Core.Path.{sym, ◌∙◌}
-use borrow.Author.Tests.{not-true, not-false}
 use Rattle.holding.specs.RowLaws.{queue-many, queue-bad, queue-rest}
 use Rattle.holding.proofs.queue_fits.Goals as goal
 

@@ -1,6 +1,5 @@
 -- `holding::rest_clear` meets its contract: the last 56 places and those before, or all at once. Assumes nothing.
 use mathlib.Core.Path.{sym, ◌∙◌}
-use borrow.Author.Tests.{not-true, not-false}
 use Rattle.holding.specs.RowLaws.{rest-is, last-left, first-left}
 use Rattle.holding.proofs.rest_clear.Goals as goal
 

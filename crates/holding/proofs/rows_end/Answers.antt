@@ -1,11 +1,10 @@
 -- `holding::rows_end` meets its contract. The invariant: the next row's own words begin where those before it end, and the rows from there on stand exactly if all do. Assumes nothing.
-use Prim.Native.Nat.{◌-◌, ◌≤◌}
 use mathlib.Core.Path.{◌≡◌, sym, ap, ◌∙◌}
 use native.Mathlib.Omega.{arith}
 use Rattle.lookup.specs.Inside.{table_in}
 use Rattle.views.specs.World.{begin_of}
 use Rattle.marks.specs.SweepLaws.{begun}
-use Rattle.holding.specs.Fitting.{rows_from, rows_stand}
+use Rattle.holding.specs.Fitting.{rows_from}
 use Rattle.holding.specs.WholeLaws.{begin-room, rows-over, rows-stop, rows_on, rows-bad, rows-good}
 use borrow.Author.Rules.{rules}
 use Rattle.holding.proofs.rows_end.Goals as goal

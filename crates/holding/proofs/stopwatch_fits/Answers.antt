@@ -1,7 +1,6 @@
 -- `holding::stopwatch_fits` meets its contract: each way out is one of the tests. Assumes nothing.
 use mathlib.Core.Path.{sym, subst, ◌∙◌}
 use native.Mathlib.Omega.{arith}
-use borrow.Author.Tests.{not-true, not-false}
 use lib.Dec.{T}
 use Rattle.rules.specs.Decides.{is_false}
 use Rattle.marks.specs.MarkingLaws.{fit-rules, whole_says}

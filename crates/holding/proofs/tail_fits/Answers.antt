@@ -1,7 +1,6 @@
 -- `holding::tail_fits` meets its contract: how many messages, the clock, the rows, and the messages from where the rows end. Assumes nothing.
 use mathlib.Core.Path.{sym, ◌∙◌}
 use native.Mathlib.Omega.{arith}
-use borrow.Author.Tests.{not-true, not-false}
 use Rattle.lookup.specs.Inside.{table_in}
 use Rattle.holding.specs.WholeLaws.{end-room, rows_tell, tail-many, tail-late, tail-bad, tail-rest}
 use Rattle.holding.proofs.tail_fits.Goals as goal

@@ -1,0 +1,43 @@
+-- `posting::post` meets its contract. Assumes nothing.
+use mathlib.Core.Path.{sym, ap, ◌∙◌}
+use native.Mathlib.Omega.{arith}
+use borrow.Author.Tests.{le-leb, lt-leb}
+use lib.ListN.{length}
+use Rattle.rules.specs.Layout.{lent}
+use Rattle.storing.specs.State.{words_for}
+use Rattle.storing.specs.Lent.{answered, left_anew}
+use Rattle.posting.specs.WholeLaws.{fits, room_for, has-passed, post-short, post-refused, post-done, post-laid}
+use Rattle.posting.proofs.post.Goals as goal
+
+pub returns-then-state-needed : goal.returns-then-state-needed
+returns-then-state-needed c =
+    let a = c.args in
+    let short = lt-leb (words_for (length a.models.now) (length a.connectors.now) (length a.couplings.now)) (length a.state.now) (omega (arith, c.state_words-needed.ensures, c.if-state-needed.true)) in
+    let is = post-short a.models.now a.connectors.now a.couplings.now a.state.now short in
+    record { answers = sym (ap answered is); leaves = sym (ap (left_anew a.models.now a.connectors.now a.couplings.now a.state.now) is) }
+
+pub returns-in-Refused : goal.returns-in-Refused
+returns-in-Refused c =
+    let a = c.args in
+    let enough = le-leb (words_for (length a.models.now) (length a.connectors.now) (length a.couplings.now)) (length a.state.now) (omega (arith, c.state_words-needed.ensures, c.if-state-needed.false)) in
+    let is = post-refused a.models.now a.connectors.now a.couplings.now a.state.now c.in-Refused.refusal enough (sym c.judged.ensures ∙ c.in-Refused.is) in
+    record { answers = sym (ap answered is); leaves = sym (ap (left_anew a.models.now a.connectors.now a.couplings.now a.state.now) is) }
+
+pub lay-requires : goal.lay-requires
+lay-requires c =
+    let a = c.args in
+    let passes = has-passed (lent a.models.now a.connectors.now a.couplings.now) (sym c.judged.ensures ∙ c.in-Done.is) in
+    fits a.models.now a.connectors.now a.couplings.now passes a.state.now
+    (room_for a.models.now a.connectors.now a.couplings.now passes a.state.now (omega (arith, c.state_words-needed.ensures, c.if-state-needed.false)))
+
+pub returns : goal.returns
+returns c =
+    let a = c.args in
+    let passes = has-passed (lent a.models.now a.connectors.now a.couplings.now) (sym c.judged.ensures ∙ c.in-Done.is) in
+    let enough = le-leb (words_for (length a.models.now) (length a.connectors.now) (length a.couplings.now)) (length a.state.now) (omega (arith, c.state_words-needed.ensures, c.if-state-needed.false)) in
+    let is = post-done a.models.now a.connectors.now a.couplings.now a.state.now enough passes in
+    record {
+      answers = sym (ap answered is);
+      leaves = c.lay.ensures.lays ∙ post-laid a.models.now a.connectors.now a.couplings.now a.state.now passes
+          ∙ sym (ap (left_anew a.models.now a.connectors.now a.couplings.now a.state.now) is);
+    }
