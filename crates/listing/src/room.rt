@@ -19,7 +19,14 @@ pub(crate) fn listing() -> [u8; 65536]
 pub(crate) fn bytes() -> [u8; 4194304]
     ensures { 4194304 ≡ length result }
 {
-    [0; 4194304]
+    zeros()
+}
+
+// So many that a proof cannot count them: here their number is any.
+fn zeros<const N: usize>() -> [u8; N]
+    ensures { N ≡ length result }
+{
+    [0; N]
 }
 
 // 65,536 service times, as bits.
