@@ -1,5 +1,7 @@
 // How far a file is run, and the status that it ends with.
 use rules::Refusal;
+use std::fs::{File, OpenOptions};
+use std::io::Write;
 
 // The file goes on, or was run to its end.
 pub(crate) const RAN: u64 = 0;
@@ -19,11 +21,13 @@ pub(crate) const LEFT: u64 = 5;
 // The trace could not be written. The listing still can, so that is no LOST before the end.
 pub(crate) const CUT: u64 = 6;
 
-// No trace is asked for, in place of its descriptor.
-pub(crate) const NO_TRACE: i32 = -1;
+// What the command finds on descriptor 3.
+const TOLD: &str = "/proc/self/fd/3";
 
 #[derive(Clone, Copy)]
 pub(crate) struct Course {
+    // What is asked for the standard streams and the arguments. It takes no room.
+    pub rt: HostRuntime,
     // Of the next step, counted from 1 through the whole file; of the next block, from 0, where a trace is read.
     pub number: u64,
     // How many bytes of the listing wait in the buffer.
@@ -41,17 +45,18 @@ pub(crate) struct Course {
     pub blocks: u64,
 }
 
-// What a person asked for: the messages' rows, clocks in decimal, no warnings, the descriptor of a trace.
+// What a person asked for: the messages' rows, clocks in decimal, no warnings, a trace in a file.
 #[derive(Clone, Copy)]
-pub(crate) struct Settings {
+pub(crate) struct Settings<'a> {
     pub rows: bool,
     pub decimal: bool,
     pub quiet: bool,
-    pub trace: i32,
+    pub trace: Option<&'a File>,
 }
 
-pub(crate) fn start() -> Course {
+pub(crate) fn start(rt: HostRuntime) -> Course {
     Course {
+        rt,
         number: 1,
         held: 0,
         status: RAN,
@@ -65,8 +70,8 @@ pub(crate) fn start() -> Course {
 }
 
 // A trace is read from a block on.
-pub(crate) fn from_block(number: u64) -> Course {
-    let mut c = start();
+pub(crate) fn from_block(rt: HostRuntime, number: u64) -> Course {
+    let mut c = start(rt);
     c.number = number;
     c
 }
@@ -81,6 +86,7 @@ pub(crate) fn written(course: Course, status: u64) -> Course {
 
 pub(crate) fn refused(c: Course, refusal: Refusal) -> Course {
     Course {
+        rt: c.rt,
         number: c.number,
         held: c.held,
         status: REFUSED,
@@ -159,10 +165,16 @@ pub(crate) fn stepped(course: Course, reached: bool) -> Course {
 
 // Tells the command that started the program, on a descriptor that nothing of a bench file reaches. Without it the program was ended by
 // something else.
-pub(crate) fn tell(status: u64) {
+pub(crate) fn tell(rt: HostRuntime, status: u64) {
     if status == CUT {
-        io::print_decimal(3, LOST);
-        return;
+        return digit(rt, LOST);
     }
-    io::print_decimal(3, status);
+    digit(rt, status);
+}
+
+// Where nobody asks for it, nothing is told.
+fn digit(rt: HostRuntime, status: u64) {
+    if let Ok(mut told) = OpenOptions::new().append(true).open(&rt, TOLD) {
+        let _ = write!(told, "{status}");
+    }
 }

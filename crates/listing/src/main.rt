@@ -16,27 +16,27 @@ mod trace;
 mod warn;
 mod why;
 
-fn main() {
-    let mut path = io::buffer();
-    let length = input::name(&mut path);
+fn main(rt: HostRuntime) {
+    let mut path = room::page();
+    let length = input::name(rt, &mut path);
     if length <= path.len() {
-        course::tell(asked(&path[0..length]));
+        course::tell(rt, asked(rt, &path[0..length]));
     }
 }
 
-fn asked(path: &[u8]) -> u64 {
-    if input::has(b'r') {
-        return rows::print(path);
+fn asked(rt: HostRuntime, path: &[u8]) -> u64 {
+    if input::has(rt, b'r') {
+        return rows::print(rt, path);
     }
-    file(path)
+    file(rt, path)
 }
 
 // How it ended.
-fn file(path: &[u8]) -> u64 {
+fn file(rt: HostRuntime, path: &[u8]) -> u64 {
     let mut text = room::bytes();
-    let length = input::read(path, &mut text);
+    let length = input::read(rt, path, &mut text);
     if length < text.len() {
-        return run::file(path, &text[0..length]);
+        return run::file(rt, path, &text[0..length]);
     }
     course::WRONG
 }

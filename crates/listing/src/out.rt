@@ -1,30 +1,39 @@
 // The listing: gathered in a lent buffer, and written to standard output when that is full and at the end.
-use crate::course;
+ghost use Rattle.std.specs.Prelude.{◌≤◌};
+
 use crate::course::Course;
+use crate::{course, say};
+use std::io::ErrorKind;
+
+// The digits of a number in hexadecimal.
+const HEX: [u8; 16] = *b"0123456789abcdef";
 
 // Writes bytes to standard output: the status where that fails.
-fn write(bytes: &[u8], status: u64) -> u64 {
+fn write(bytes: &[u8], c: Course) -> u64 {
+    let status = c.status;
     if status == course::LOST {
         return status;
     }
     if status == course::LEFT {
         return status;
     }
-    if io::write_all(libc::STDOUT_FILENO, bytes) {
-        return status;
+    match c.rt.stdout().write_all(bytes) {
+        Ok(()) => status,
+        Err(error) => {
+            if error.kind() == ErrorKind::BrokenPipe {
+                return course::left(status);
+            }
+            say::fail(c.rt, b"jambthrush: standard output", error);
+            course::LOST
+        }
     }
-    if os::errno() == libc::EPIPE {
-        return course::left(status);
-    }
-    os::fail(b"jambthrush: standard output");
-    course::LOST
 }
 
 // Writes what waits. Once that failed, nothing more is written.
 pub(crate) fn flush(out: &[u8], c: Course) -> Course {
     let held = c.held;
     if held <= out.len() {
-        let status = write(&out[0..held], c.status);
+        let status = write(&out[0..held], c);
         return course::written(c, status);
     }
     c
@@ -55,14 +64,43 @@ pub(crate) fn text(out: &mut [u8], c: Course, bytes: &[u8]) -> Course {
 
 pub(crate) fn number(out: &mut [u8], c: Course, n: u64) -> Course {
     let mut digits = [0u8; 20];
-    let count = io::decimal(n, &mut digits);
-    text(out, c, &digits[..count])
+    let start = lay_digits(n, &mut digits);
+    text(out, c, &digits[start..])
+}
+
+// Lays the digits of a number at the end of the room for them: where they start.
+fn lay_digits(n: u64, digits: &mut [u8; 20]) -> usize
+    ensures { result ≤ 20 }
+{
+    let mut rest = n;
+    let mut at = 20;
+    while 0 < at {
+        at -= 1;
+        digits[at] = b'0' + (rest % 10) as u8;
+        rest = rest / 10;
+        if rest == 0 {
+            return at;
+        }
+    }
+    at
 }
 
 pub(crate) fn bits(out: &mut [u8], c: Course, word: u64) -> Course {
-    let mut digits = [0u8; 16];
-    let count = io::hex(word, 16, &mut digits);
-    text(out, c, &digits[..count])
+    let digits = sixteen(word);
+    text(out, c, &digits)
+}
+
+// The digits of a word in hexadecimal, zeros in front.
+fn sixteen(word: u64) -> [u8; 16] {
+    let mut digits = [b'0'; 16];
+    let mut rest = word;
+    let mut at = 16;
+    while 0 < at {
+        at -= 1;
+        digits[at] = HEX[(rest % 16) as usize];
+        rest = rest / 16;
+    }
+    digits
 }
 
 // A text without the dots that fill it up to 32 bytes.

@@ -1,11 +1,32 @@
 // The room that a file may take. Each array is made by a function, whose contract says how long it is: a caller's proof need not count it.
 ghost use Rattle.std.specs.Prelude.{◌≡◌, length};
 
+// The name of a file, or a listing of one line.
+pub(crate) fn page() -> [u8; 4096]
+    ensures { 4096 ≡ length result }
+{
+    [0; 4096]
+}
+
+// What waits to be written of a listing.
+pub(crate) fn listing() -> [u8; 65536]
+    ensures { 65536 ≡ length result }
+{
+    [0; 65536]
+}
+
 // One byte more than a file may have.
 pub(crate) fn bytes() -> [u8; 4194304]
     ensures { 4194304 ≡ length result }
 {
-    [0; 4194304]
+    zeros()
+}
+
+// So many that a proof cannot count them: here their number is any.
+fn zeros<const N: usize>() -> [u8; N]
+    ensures { N ≡ length result }
+{
+    [0; N]
 }
 
 // 65,536 service times, as bits.

@@ -2,8 +2,11 @@
 ghost use Rattle.std.specs.Prelude.{◌<◌, ◌≤◌};
 
 use crate::course::Course;
+use crate::input::Source;
 use crate::{course, input, out, room, run, say, steps};
 use rules::Refusal;
+use std::io;
+use std::io::{Read, Stderr};
 use trace_blocks::Judged;
 
 // More blocks than any file has.
@@ -14,89 +17,95 @@ const MOST_BLOCKS: u64 = 0x20_0000_0000_0000;
 enum Filled {
     Full,
     Ends(usize),
-    Failed,
+    Failed(io::Error),
 }
 
-pub(crate) fn print(path: &[u8]) -> u64 {
-    let fd = input::open(path);
-    if fd < 0 {
-        os::fail(path);
-        return course::WRONG;
+pub(crate) fn print(rt: HostRuntime, path: &[u8]) -> u64 {
+    match input::open(rt, path) {
+        Ok(mut source) => printed(rt, &mut source, path),
+        Err(error) => {
+            say::fail(rt, path, error);
+            course::WRONG
+        }
     }
-    let mut out = io::large_buffer();
-    let c = from(fd, path, &mut out, input::first_block());
+}
+
+fn printed(rt: HostRuntime, source: &mut Source, path: &[u8]) -> u64 {
+    let mut out = room::listing();
+    let first = course::from_block(rt, input::first_block(rt));
+    let c = from(source, path, &mut out, first);
     let after = out::flush(&out, c);
     after.status
 }
 
-fn from(fd: i32, path: &[u8], out: &mut [u8], first: u64) -> Course {
-    let c = course::from_block(first);
-    let passed = pass(fd, first);
-    if passed == course::WRONG {
-        os::fail(path);
-        return course::ended(c, passed);
-    }
-    if passed == course::REFUSED {
-        return bad(path, &path[0..0], out, c, true);
+fn from(source: &mut Source, path: &[u8], out: &mut [u8], c: Course) -> Course {
+    match pass(source, c.number) {
+        Ok(true) => {}
+        Ok(false) => return bad(path, &path[0..0], out, c, true),
+        Err(error) => {
+            say::fail(c.rt, path, error);
+            return course::ended(c, course::WRONG);
+        }
     }
     let mut piece = room::piece();
-    pieces(fd, path, &mut piece, out, c)
+    pieces(source, path, &mut piece, out, c)
 }
 
 // Reads behind so many bytes.
-fn fill(fd: i32, piece: &mut [u8], held: usize) -> Filled {
+fn fill(source: &mut Source, piece: &mut [u8], held: usize) -> Filled {
     let mut length = held;
     while length < piece.len() {
-        let got = libc::read(fd, &mut piece[length..]);
-        if got < 0 {
-            return Filled::Failed;
+        match source.read(&mut piece[length..]) {
+            Ok(0) => return Filled::Ends(length),
+            Ok(more) => length += more,
+            Err(error) => return Filled::Failed(error),
         }
-        let more = io::count(got, &piece[length..]);
-        if more == 0 {
-            return Filled::Ends(length);
-        }
-        length += more;
     }
     Filled::Full
 }
 
-// Passes over so many blocks: REFUSED where there are fewer. The last of them is read, as one can go past the end of a file unnoticed.
-fn pass(fd: i32, blocks: u64) -> u64 {
+// Passes over so many blocks: whether there are as many. The last of them is read, as one can go past the end of a file unnoticed.
+fn pass(source: &mut Source, blocks: u64) -> io::Result<bool> {
     if MOST_BLOCKS < blocks {
-        return course::REFUSED;
+        return Ok(false);
     }
     let mut left = blocks;
     if 1 < blocks {
-        if 0 <= libc::lseek(fd, ((blocks - 1) * 512) as i64, libc::SEEK_CUR) {
+        if source.skip(((blocks - 1) * 512) as i64) {
             left = 1;
         }
     }
     while 0 < left {
-        let passed = pass_one(fd);
-        if passed != course::RAN {
-            return passed;
+        if !pass_one(source)? {
+            return Ok(false);
         }
         left -= 1;
     }
-    course::RAN
+    Ok(true)
 }
 
-fn pass_one(fd: i32) -> u64 {
+fn pass_one(source: &mut Source) -> io::Result<bool> {
     let mut block = [0u8; 512];
-    match fill(fd, &mut block, 0) {
-        Filled::Full => course::RAN,
-        Filled::Ends(_) => course::REFUSED,
-        Filled::Failed => course::WRONG,
+    match fill(source, &mut block, 0) {
+        Filled::Full => Ok(true),
+        Filled::Ends(_) => Ok(false),
+        Filled::Failed(error) => Err(error),
     }
 }
 
 // Piece by piece, up to the file's end. The turns are more than there can be good blocks.
-fn pieces(fd: i32, path: &[u8], piece: &mut [u8], out: &mut [u8], first: Course) -> Course {
+fn pieces(
+    source: &mut Source,
+    path: &[u8],
+    piece: &mut [u8],
+    out: &mut [u8],
+    first: Course,
+) -> Course {
     let mut c = first;
     let mut held = 0;
     let mut turns: u64 = 0x1_0000_0000;
     while 0 < turns {
-        c = one(fd, path, piece, out, c, held);
+        c = one(source, path, piece, out, c, held);
         if c.status != course::RAN {
             return c;
         }
@@ -110,12 +119,19 @@ fn pieces(fd: i32, path: &[u8], piece: &mut [u8], out: &mut [u8], first: Course)
 }
 
 // A piece behind so many bytes that were read ahead.
-fn one(fd: i32, path: &[u8], piece: &mut [u8], out: &mut [u8], c: Course, held: usize) -> Course {
-    match fill(fd, piece, held) {
+fn one(
+    source: &mut Source,
+    path: &[u8],
+    piece: &mut [u8],
+    out: &mut [u8],
+    c: Course,
+    held: usize,
+) -> Course {
+    match fill(source, piece, held) {
         Filled::Full => whole(path, piece, out, c),
         Filled::Ends(length) => last(path, piece, out, c, length),
-        Filled::Failed => {
-            os::fail(path);
+        Filled::Failed(error) => {
+            say::fail(c.rt, path, error);
             course::ended(c, course::WRONG)
         }
     }
@@ -180,7 +196,7 @@ fn block(path: &[u8], bytes: &[u8], out: &mut [u8], c: Course, ends: bool) -> Co
 fn good(bytes: &[u8], out: &mut [u8], c: Course, count: usize) -> Course {
     let mut rows = [0u64; 60];
     trace_blocks::read_numbers(bytes, &mut rows);
-    let told = steps::rows_of(out, c, &rows, count, input::has(b'd'));
+    let told = steps::rows_of(out, c, &rows, count, input::has(c.rt, b'd'));
     course::stepped(told, false)
 }
 
@@ -188,29 +204,30 @@ fn good(bytes: &[u8], out: &mut [u8], c: Course, count: usize) -> Course {
 fn bad(path: &[u8], bytes: &[u8], out: &mut [u8], c: Course, ends: bool) -> Course {
     let told = run::refused(out, course::refused(c, Refusal::BadBlock));
     let after = out::flush(out, told);
-    say::text(path);
-    say::text(b": block ");
-    say::number(c.number);
-    say::text(b": ");
-    why(bytes, c.number, ends);
-    say::text(b"\n");
+    let err = c.rt.stderr();
+    say::text(err, path);
+    say::text(err, b": block ");
+    say::number(err, c.number);
+    say::text(err, b": ");
+    why(err, bytes, c.number, ends);
+    say::text(err, b"\n");
     after
 }
 
 // What is wrong with a bad block of this number.
-fn why(block: &[u8], number: u64, ends: bool) {
+fn why(err: Stderr, block: &[u8], number: u64, ends: bool) {
     if block.len() == 0 {
-        return say::text(b"the file ends before it");
+        return say::text(err, b"the file ends before it");
     }
     if block.len() < trace_blocks::BLOCK_BYTES {
-        return say::text(b"it is cut short");
+        return say::text(err, b"it is cut short");
     }
     let has = number_in(block);
     if has != number {
-        say::text(b"its number is ");
-        return say::number(has);
+        say::text(err, b"its number is ");
+        return say::number(err, has);
     }
-    why_rows(block, trace_blocks::count_in(block), ends)
+    why_rows(err, block, trace_blocks::count_in(block), ends)
 }
 
 // Word 0, the lowest byte first.
@@ -229,25 +246,25 @@ fn with_byte(high: u64, low: u8) -> u64 {
     high * 0x100 + low as u64
 }
 
-fn why_rows(block: &[u8], count: u64, ends: bool) {
+fn why_rows(err: Stderr, block: &[u8], count: u64, ends: bool) {
     if count < 1 {
-        return no_count(count);
+        return no_count(err, count);
     }
     if 10 < count {
-        return no_count(count);
+        return no_count(err, count);
     }
     if !ends && count < 10 {
-        return say::text(b"it is not full, and not the last");
+        return say::text(err, b"it is not full, and not the last");
     }
     if !is_clear(block, 8 + 48 * (count as usize)) {
-        return say::text(b"a word that is not used is not 0");
+        return say::text(err, b"a word that is not used is not 0");
     }
-    say::text(b"the sum of its words is wrong")
+    say::text(err, b"the sum of its words is wrong")
 }
 
-fn no_count(count: u64) {
-    say::text(b"its count of rows is ");
-    say::number(count)
+fn no_count(err: Stderr, count: u64) {
+    say::text(err, b"its count of rows is ");
+    say::number(err, count)
 }
 
 // Every byte from a place on, up to the last word, is 0.

@@ -6,6 +6,7 @@ use crate::{course, input, out, room, say, steps, trace, warn, why};
 use bench_file::{Counts, Page, Reading};
 use memory::Answer;
 use rules::{Message, Refusal};
+use std::io::Stderr;
 use times::TimeOf;
 
 // The first word of an action's row. The fourth kind is step_until_idle.
@@ -29,7 +30,7 @@ fn used(rows: usize, width: usize, page: &[u64]) -> usize
 }
 
 // The file is read whole before anything is run. How it ended.
-pub(crate) fn file(path: &[u8], text: &[u8]) -> u64 {
+pub(crate) fn file(rt: HostRuntime, path: &[u8], text: &[u8]) -> u64 {
     let mut models = [0u64; 1280];
     let mut connectors = [0u64; 2048];
     let mut couplings = [0u64; 3072];
@@ -49,10 +50,11 @@ pub(crate) fn file(path: &[u8], text: &[u8]) -> u64 {
             column,
             expected,
         } => {
-            say::wrong_line(path, text, line, column, expected);
+            say::wrong_line(rt.stderr(), path, text, line, column, expected);
             course::WRONG
         }
         Reading::Read(counts) => posted(
+            rt,
             path,
             text,
             &models,
@@ -67,6 +69,7 @@ pub(crate) fn file(path: &[u8], text: &[u8]) -> u64 {
 
 // Posts the table, and goes on with the actions.
 fn posted(
+    rt: HostRuntime,
     path: &[u8],
     text: &[u8],
     models: &[u64],
@@ -82,15 +85,15 @@ fn posted(
     let times = &services[0..used(counts.services, 1, services)];
     let orders = &actions[0..used(counts.actions, 7, actions)];
     let mut state = room::state();
-    let settings = input::settings(counts.rows);
+    let settings = input::settings(rt, counts.rows);
     match simulation::post(rows, links, inner, &mut state) {
-        Answer::Refused(refusal) => refused_table(path, text, rows, links, inner, refusal),
+        Answer::Refused(refusal) => refused_table(rt, path, text, rows, links, inner, refusal),
         Answer::Done => {
             if !settings.quiet {
-                say::omitted(capacities::omitted(rows));
-                warn::ends(path, text, rows, links, inner, orders);
+                say::omitted(rt.stderr(), capacities::omitted(rows));
+                warn::ends(rt.stderr(), path, text, rows, links, inner, orders);
             }
-            let c = begin(path, text, &mut state, times, orders, settings);
+            let c = begin(rt, path, text, &mut state, times, orders, settings);
             if !settings.quiet {
                 ran(path, text, rows, &state, times.len(), c);
             }
@@ -102,16 +105,17 @@ fn posted(
 // What is left where a file was run to its end, and what is held where its last run ended idle.
 fn ran(path: &[u8], text: &[u8], models: &[u64], state: &[u64], given: usize, c: Course) {
     if c.status == course::RAN {
-        left_over(path, text, state, given);
+        left_over(c.rt.stderr(), path, text, state, given);
     }
     if c.idle {
         if 0 < c.idle_row {
-            still_held(path, text, models, state, c.idle_row - 1);
+            still_held(c.rt.stderr(), path, text, models, state, c.idle_row - 1);
         }
     }
 }
 
 fn refused_table(
+    rt: HostRuntime,
     path: &[u8],
     text: &[u8],
     models: &[u64],
@@ -119,16 +123,17 @@ fn refused_table(
     couplings: &[u64],
     refusal: Refusal,
 ) -> u64 {
-    let mut buffer = io::buffer();
-    let c = refused(&mut buffer, course::refused(course::start(), refusal));
+    let err = rt.stderr();
+    let mut buffer = room::page();
+    let c = refused(&mut buffer, course::refused(course::start(rt), refusal));
     let after = out::flush(&buffer, c);
     let reason = reasons::reason_of(models, connectors, couplings);
     let verdict = table::intake(models, connectors, couplings);
-    why::place(path, text, verdict, reason);
-    say::refusal_of(c);
-    say::text(b": ");
-    why::rule(text, reason);
-    say::text(b"\n");
+    why::place(err, path, text, verdict, reason);
+    say::refusal_of(err, c);
+    say::text(err, b": ");
+    why::rule(err, text, reason);
+    say::text(err, b"\n");
     after.status
 }
 
@@ -144,15 +149,16 @@ fn lay(times: &mut [f64], bits: &[u64]) {
     }
 }
 
-fn first_line(buffer: &mut [u8], settings: Settings) -> Course {
+fn first_line(buffer: &mut [u8], c: Course, settings: Settings) -> Course {
     if settings.decimal {
-        return out::text(buffer, course::start(), b"step clock decimal messages\n");
+        return out::text(buffer, c, b"step clock decimal messages\n");
     }
-    out::text(buffer, course::start(), b"step clock messages\n")
+    out::text(buffer, c, b"step clock messages\n")
 }
 
 // There is room for as many service times as a file can have.
 fn begin(
+    rt: HostRuntime,
     path: &[u8],
     text: &[u8],
     state: &mut [u64],
@@ -162,14 +168,18 @@ fn begin(
 ) -> Course {
     let mut times = room::times();
     lay(&mut times, bits);
-    let traced = trace::open(settings);
-    if traced.trace == trace::FAILED {
-        return course::ended(course::start(), course::CUT);
-    }
+    let c = course::start(rt);
+    let Ok(file) = trace::open(rt) else {
+        return course::ended(c, course::CUT);
+    };
+    let traced = Settings {
+        trace: file.as_ref(),
+        ..settings
+    };
     if bits.len() <= 65536 {
-        return listed(path, text, state, &times[0..bits.len()], actions, traced);
+        return listed(path, text, state, &times[0..bits.len()], actions, c, traced);
     }
-    course::ended(course::start(), course::WRONG)
+    course::ended(c, course::WRONG)
 }
 
 fn listed(
@@ -178,11 +188,12 @@ fn listed(
     state: &mut [u64],
     services: &[f64],
     actions: &[u64],
+    start: Course,
     settings: Settings,
 ) -> Course {
-    let mut buffer = io::large_buffer();
+    let mut buffer = room::listing();
     let mut rows = room::rows();
-    let first = first_line(&mut buffer, settings);
+    let first = first_line(&mut buffer, start, settings);
     let c = act(
         path,
         text,
@@ -206,17 +217,17 @@ fn changing_at(state: &[u64]) -> usize {
     state.len()
 }
 
-fn left_over(path: &[u8], text: &[u8], state: &[u64], given: usize) {
+fn left_over(err: Stderr, path: &[u8], text: &[u8], state: &[u64], given: usize) {
     let at = changing_at(state);
     if at <= state.len() {
-        warn::services(path, text, &state[at..], given);
+        warn::services(err, path, text, &state[at..], given);
     }
 }
 
-fn still_held(path: &[u8], text: &[u8], models: &[u64], state: &[u64], row: usize) {
+fn still_held(err: Stderr, path: &[u8], text: &[u8], models: &[u64], state: &[u64], row: usize) {
     let at = changing_at(state);
     if at <= state.len() {
-        warn::held(path, text, row, models, &state[at..]);
+        warn::held(err, path, text, row, models, &state[at..]);
     }
 }
 
@@ -281,8 +292,9 @@ fn acted(
     }
     let told = refused(buffer, c);
     let after = out::flush(buffer, told);
-    say::place(path, bench_file::line_of(text, Page::Actions, row));
-    say::refused(c, is_injection(cells), steps::clock(state));
+    let err = c.rt.stderr();
+    say::place(err, path, bench_file::line_of(text, Page::Actions, row));
+    say::refused(err, c, is_injection(cells), steps::clock(state));
     after
 }
 

@@ -26,7 +26,7 @@ fn active(state: &[u64], rows: &mut [u64], settings: Settings) -> u64 {
     if settings.rows {
         return active_beside(state);
     }
-    if 0 <= settings.trace {
+    if settings.trace.is_some() {
         return active_beside(state);
     }
     counted_in(simulation::get_messages(state, rows))

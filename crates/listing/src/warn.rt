@@ -3,32 +3,34 @@ use crate::run::INJECT;
 use crate::say;
 use bench_file::Page;
 use hints::{Known, Side};
+use std::io::Stderr;
 use table::Kind;
 
 // How many warnings on the table and the injections are said.
 const MOST: usize = 20;
 
-fn begun(path: &[u8], text: &[u8], page: Page, row: usize) {
-    say::place(path, bench_file::line_of(text, page, row));
-    say::text(b"warning: ");
+fn begun(err: Stderr, path: &[u8], text: &[u8], page: Page, row: usize) {
+    say::place(err, path, bench_file::line_of(text, page, row));
+    say::text(err, b"warning: ");
 }
 
-fn no_model(id: u64) {
-    say::text(b"there is no model ");
-    say::number(id);
-    say::text(b" to be found there\n");
+fn no_model(err: Stderr, id: u64) {
+    say::text(err, b"there is no model ");
+    say::number(err, id);
+    say::text(err, b" to be found there\n");
 }
 
-fn no_port(id: u64, port: u64) {
-    say::text(b"model ");
-    say::number(id);
-    say::text(b" has no port ");
-    say::number(port);
-    say::text(b" for this\n");
+fn no_port(err: Stderr, id: u64, port: u64) {
+    say::text(err, b"model ");
+    say::number(err, id);
+    say::text(err, b" has no port ");
+    say::number(err, port);
+    say::text(err, b" for this\n");
 }
 
 // The warning on an end of a row, after so many others: how many there are then.
 fn end(
+    err: Stderr,
     path: &[u8],
     text: &[u8],
     page: Page,
@@ -42,8 +44,8 @@ fn end(
         return said;
     }
     if said < MOST {
-        begun(path, text, page, row);
-        unknown(id, port, known);
+        begun(err, path, text, page, row);
+        unknown(err, id, port, known);
     }
     if said < usize::MAX {
         return said + 1;
@@ -51,15 +53,16 @@ fn end(
     said
 }
 
-fn unknown(id: u64, port: u64, known: Known) {
+fn unknown(err: Stderr, id: u64, port: u64, known: Known) {
     match known {
         Known::Known => {}
-        Known::NoModel => no_model(id),
-        Known::NoPort => no_port(id, port),
+        Known::NoModel => no_model(err, id),
+        Known::NoPort => no_port(err, id, port),
     }
 }
 
 fn connector(
+    err: Stderr,
     path: &[u8],
     text: &[u8],
     models: &[u64],
@@ -71,19 +74,55 @@ fn connector(
     let id = words::word_at(cells, 0);
     let port = words::word_at(cells, 1);
     let source = hints::root_end(models, couplings, id, port, Side::Out);
-    let more = end(path, text, Page::Connectors, row, id, port, source, said);
+    let more = end(
+        err,
+        path,
+        text,
+        Page::Connectors,
+        row,
+        id,
+        port,
+        source,
+        said,
+    );
     let to = words::word_at(cells, 2);
     let into = words::word_at(cells, 3);
     let target = hints::root_end(models, couplings, to, into, Side::In);
-    end(path, text, Page::Connectors, row, to, into, target, more)
+    end(
+        err,
+        path,
+        text,
+        Page::Connectors,
+        row,
+        to,
+        into,
+        target,
+        more,
+    )
 }
 
-fn connectors(path: &[u8], text: &[u8], models: &[u64], couplings: &[u64], rows: &[u64]) -> usize {
+fn connectors(
+    err: Stderr,
+    path: &[u8],
+    text: &[u8],
+    models: &[u64],
+    couplings: &[u64],
+    rows: &[u64],
+) -> usize {
     let mut said = 0;
     let mut at = 0;
     let mut row = 0;
     while 4 <= rows.len() - at {
-        said = connector(path, text, models, couplings, &rows[at..at + 4], row, said);
+        said = connector(
+            err,
+            path,
+            text,
+            models,
+            couplings,
+            &rows[at..at + 4],
+            row,
+            said,
+        );
         at += 4;
         row += 1;
     }
@@ -92,6 +131,7 @@ fn connectors(path: &[u8], text: &[u8], models: &[u64], couplings: &[u64], rows:
 
 // The ends of a coupling that are components: an external input's target, an external output's source, both of an internal one.
 fn coupling(
+    err: Stderr,
     path: &[u8],
     text: &[u8],
     models: &[u64],
@@ -107,7 +147,17 @@ fn coupling(
         let id = words::word_at(cells, 2);
         let port = words::word_at(cells, 3);
         let source = hints::component_end(models, couplings, owner, id, port, Side::Out);
-        more = end(path, text, Page::Couplings, row, id, port, source, more);
+        more = end(
+            err,
+            path,
+            text,
+            Page::Couplings,
+            row,
+            id,
+            port,
+            source,
+            more,
+        );
     }
     if kind == 2 {
         return more;
@@ -115,15 +165,33 @@ fn coupling(
     let to = words::word_at(cells, 4);
     let into = words::word_at(cells, 5);
     let target = hints::component_end(models, couplings, owner, to, into, Side::In);
-    end(path, text, Page::Couplings, row, to, into, target, more)
+    end(
+        err,
+        path,
+        text,
+        Page::Couplings,
+        row,
+        to,
+        into,
+        target,
+        more,
+    )
 }
 
-fn inner(path: &[u8], text: &[u8], models: &[u64], couplings: &[u64], before: usize) -> usize {
+fn inner(
+    err: Stderr,
+    path: &[u8],
+    text: &[u8],
+    models: &[u64],
+    couplings: &[u64],
+    before: usize,
+) -> usize {
     let mut said = before;
     let mut at = 0;
     let mut row = 0;
     while 6 <= couplings.len() - at {
         said = coupling(
+            err,
             path,
             text,
             models,
@@ -140,6 +208,7 @@ fn inner(path: &[u8], text: &[u8], models: &[u64], couplings: &[u64], before: us
 
 // An injection's target: its source need not be a model.
 fn injection(
+    err: Stderr,
     path: &[u8],
     text: &[u8],
     models: &[u64],
@@ -154,10 +223,11 @@ fn injection(
     let id = words::word_at(cells, 3);
     let port = words::word_at(cells, 4);
     let target = hints::root_end(models, couplings, id, port, Side::In);
-    end(path, text, Page::Actions, row, id, port, target, said)
+    end(err, path, text, Page::Actions, row, id, port, target, said)
 }
 
 fn injections(
+    err: Stderr,
     path: &[u8],
     text: &[u8],
     models: &[u64],
@@ -170,6 +240,7 @@ fn injections(
     let mut row = 0;
     while 7 <= actions.len() - at {
         said = injection(
+            err,
             path,
             text,
             models,
@@ -186,6 +257,7 @@ fn injections(
 
 // Connectors, couplings and injections that name nobody, or a port that there is not.
 pub(crate) fn ends(
+    err: Stderr,
     path: &[u8],
     text: &[u8],
     models: &[u64],
@@ -193,39 +265,39 @@ pub(crate) fn ends(
     couplings: &[u64],
     actions: &[u64],
 ) {
-    let first = connectors(path, text, models, couplings, links);
-    let second = inner(path, text, models, couplings, first);
-    let all = injections(path, text, models, couplings, actions, second);
+    let first = connectors(err, path, text, models, couplings, links);
+    let second = inner(err, path, text, models, couplings, first);
+    let all = injections(err, path, text, models, couplings, actions, second);
     if MOST < all {
-        say::text(path);
-        say::text(b": warning: ");
-        say::number((all - MOST) as u64);
-        say::text(b" more of these\n");
+        say::text(err, path);
+        say::text(err, b": warning: ");
+        say::number(err, (all - MOST) as u64);
+        say::text(err, b" more of these\n");
     }
 }
 
 // Service times that no processor has read. The changing part of the state has their number at its word 2.
-pub(crate) fn services(path: &[u8], text: &[u8], changing: &[u64], given: usize) {
+pub(crate) fn services(err: Stderr, path: &[u8], text: &[u8], changing: &[u64], given: usize) {
     let read = words::word_at(changing, 2) as usize;
     if given <= read {
         return;
     }
-    begun(path, text, Page::Services, read);
-    say::number((given - read) as u64);
-    say::text(b" service times are left over, from this one on\n");
+    begun(err, path, text, Page::Services, read);
+    say::number(err, (given - read) as u64);
+    say::text(err, b" service times are left over, from this one on\n");
 }
 
 // What a model still has where nothing is left to do.
-fn still(path: &[u8], text: &[u8], action: usize, id: u64, count: u64, what: &[u8]) {
+fn still(err: Stderr, path: &[u8], text: &[u8], action: usize, id: u64, count: u64, what: &[u8]) {
     if count == 0 {
         return;
     }
-    begun(path, text, Page::Actions, action);
-    say::text(b"model ");
-    say::number(id);
-    say::text(b" still has ");
-    say::number(count);
-    say::text(what);
+    begun(err, path, text, Page::Actions, action);
+    say::text(err, b"model ");
+    say::number(err, id);
+    say::text(err, b" still has ");
+    say::number(err, count);
+    say::text(err, what);
 }
 
 fn is_mark(changing: &[u64], place: usize) -> bool {
@@ -272,6 +344,7 @@ fn is_complete(changing: &[u64], begin: usize, at: usize) -> bool {
 
 // The head of a row: word 2 is how many it holds, word 3 where its own words begin.
 fn held_by(
+    err: Stderr,
     path: &[u8],
     text: &[u8],
     action: usize,
@@ -283,12 +356,13 @@ fn held_by(
     let id = table::id_at(models, row);
     let held = words::word_at(head, 2);
     match table::kind_at(models, row) {
-        Kind::Processor(_) => still(path, text, action, id, held, b" jobs\n"),
-        Kind::Batcher(_) => still(path, text, action, id, held, b" jobs\n"),
-        Kind::Coupled => still(path, text, action, id, held, b" parked messages\n"),
+        Kind::Processor(_) => still(err, path, text, action, id, held, b" jobs\n"),
+        Kind::Batcher(_) => still(err, path, text, action, id, held, b" jobs\n"),
+        Kind::Coupled => still(err, path, text, action, id, held, b" parked messages\n"),
         Kind::Stopwatch(_) => {
             let open = incomplete(changing, words::word_at(head, 3) as usize, held);
             still(
+                err,
                 path,
                 text,
                 action,
@@ -302,7 +376,14 @@ fn held_by(
 }
 
 // What models still hold where a `step_until_idle` ended idle. The heads, of 4 words, stand from word 3 of the changing part on.
-pub(crate) fn held(path: &[u8], text: &[u8], action: usize, models: &[u64], changing: &[u64]) {
+pub(crate) fn held(
+    err: Stderr,
+    path: &[u8],
+    text: &[u8],
+    action: usize,
+    models: &[u64],
+    changing: &[u64],
+) {
     let mut row = 0;
     let mut at = 3;
     while row < models.len() / 10 {
@@ -313,6 +394,7 @@ pub(crate) fn held(path: &[u8], text: &[u8], action: usize, models: &[u64], chan
             return;
         }
         held_by(
+            err,
             path,
             text,
             action,
