@@ -1,11 +1,8 @@
 -- `capacities::omitted` meets its contract. The invariant: the count and the count of the rows left are that of all. Assumes nothing.
 use Prim.Native.Nat.{◌+◌, ◌-◌, ◌≤◌}
-use mathlib.Core.Path.{◌≡◌, refl, ap, ◌∙◌}
-use native.Mathlib.Omega.{arith}
-use lib.ListN.{length, take, drop, length-drop}
+use mathlib.Core.Path.{◌≡◌}
+use lib.ListN.{length, drop}
 use Rattle.rules.specs.Layout.{omitted_in}
-use Rattle.memory.specs.Places.{lent-own}
-use Rattle.capacities.specs.Rows.{counted_of, counted-on, counted-one, counted-short}
 use Rattle.capacities.proofs.omitted.Given as goal
 
 abbrev pub invariant-loop-start : goal.invariant-loop-start
