@@ -1,4 +1,4 @@
-// The calls for C: include/jambthrush.h says how to use them. Each answers 0 or the number of the refusal.
+// The calls for C, which `host_c` exports: include/jambthrush.h says how to use them. Each answers 0 or the number of the refusal.
 #![tactic(auto)]
 
 ghost use Rattle.std.specs.Prelude.{◌≡◌, ◌/◌, length};
@@ -44,8 +44,7 @@ fn place(report: &mut [u64; 3], part: u64, row: usize, omitted: usize, number: u
 }
 
 // Table intake: 0, 1, 2 or 3, with the first bad row, or how many rows omit `queue_capacity`.
-#[unsafe(no_mangle)]
-pub extern "C" fn jt_intake(
+pub fn jt_intake(
     models: &[u64],
     connectors: &[u64],
     couplings: &[u64],
@@ -64,8 +63,7 @@ pub extern "C" fn jt_intake(
 }
 
 // The migration of a table that omits `queue_capacity` and means 2^64 - 1: 0, and how many rows it wrote.
-#[unsafe(no_mangle)]
-pub extern "C" fn jt_write_out_capacity(models: &mut [u64], count: &mut u64) -> u32
+pub fn jt_write_out_capacity(models: &mut [u64], count: &mut u64) -> u32
     ensures answers { result ≡ 0 }
     ensures writes { models.new ≡ written_out models.old }
     ensures tells { count.new ≡ omitted_in models.old }
@@ -75,13 +73,7 @@ pub extern "C" fn jt_write_out_capacity(models: &mut [u64], count: &mut u64) -> 
 }
 
 // `post`: 0, 20, 1, 2 or 3, and the state buffer after it.
-#[unsafe(no_mangle)]
-pub extern "C" fn jt_post(
-    models: &[u64],
-    connectors: &[u64],
-    couplings: &[u64],
-    state: &mut [u64],
-) -> u32
+pub fn jt_post(models: &[u64], connectors: &[u64], couplings: &[u64], state: &mut [u64]) -> u32
     ensures answers { result ≡ number_of (post_in models.now connectors.now couplings.now state.old) }
     ensures leaves { state.new ≡ left_anew models.now connectors.now couplings.now state.old (post_in models.now connectors.now couplings.now state.old) }
 {
@@ -89,13 +81,7 @@ pub extern "C" fn jt_post(
 }
 
 // `put`: 0, 20, 1, 2 or 3, and the state buffer after it.
-#[unsafe(no_mangle)]
-pub extern "C" fn jt_put(
-    state: &mut [u64],
-    models: &[u64],
-    connectors: &[u64],
-    couplings: &[u64],
-) -> u32
+pub fn jt_put(state: &mut [u64], models: &[u64], connectors: &[u64], couplings: &[u64]) -> u32
     ensures answers { result ≡ number_of (put_in models.now connectors.now couplings.now state.old) }
     ensures leaves { state.new ≡ left_anew models.now connectors.now couplings.now state.old (put_in models.now connectors.now couplings.now state.old) }
 {
@@ -103,8 +89,7 @@ pub extern "C" fn jt_put(
 }
 
 // `inject_input`: 0, 20, 10 or 8, and the state buffer after it.
-#[unsafe(no_mangle)]
-pub extern "C" fn jt_inject_input(
+pub fn jt_inject_input(
     state: &mut [u64],
     source_id: u16,
     source_port: u16,
@@ -164,13 +149,7 @@ fn tell(told: Report, report: &mut [u64; 3]) -> u32
 }
 
 // `step`: 0 or the number of the refusal; report, state buffer and rows after it.
-#[unsafe(no_mangle)]
-pub extern "C" fn jt_step(
-    state: &mut [u64],
-    services: &[f64],
-    rows: &mut [u64],
-    report: &mut [u64; 3],
-) -> u32
+pub fn jt_step(state: &mut [u64], services: &[f64], rows: &mut [u64], report: &mut [u64; 3]) -> u32
     ensures answers { result ≡ end_number (run_in (Calls.step services.now (room_in rows.old)) state.old).end }
     ensures tells { report.new ≡ report_after report.old (run_in (Calls.step services.now (room_in rows.old)) state.old) }
     ensures leaves { state.new ≡ left_by_run state.old (run_in (Calls.step services.now (room_in rows.old)) state.old) }
@@ -181,8 +160,7 @@ pub extern "C" fn jt_step(
 }
 
 // `step_n`: 0 or the number of the refusal; report, state buffer and rows after it.
-#[unsafe(no_mangle)]
-pub extern "C" fn jt_step_n(
+pub fn jt_step_n(
     state: &mut [u64],
     services: &[f64],
     count: u64,
@@ -199,8 +177,7 @@ pub extern "C" fn jt_step_n(
 }
 
 // `step_until`: 0 or the number of the refusal; report, state buffer and rows after it.
-#[unsafe(no_mangle)]
-pub extern "C" fn jt_step_until(
+pub fn jt_step_until(
     state: &mut [u64],
     services: &[f64],
     until: f64,
@@ -218,8 +195,7 @@ pub extern "C" fn jt_step_until(
 }
 
 // `reset`: 0 or 20, and the state buffer after it.
-#[unsafe(no_mangle)]
-pub extern "C" fn jt_reset(state: &mut [u64]) -> u32
+pub fn jt_reset(state: &mut [u64]) -> u32
     ensures answers { result ≡ number_of (call_in Calls.reset state.old) }
     ensures leaves { state.new ≡ left state.old (call_in Calls.reset state.old) }
 {
@@ -227,8 +203,7 @@ pub extern "C" fn jt_reset(state: &mut [u64]) -> u32
 }
 
 // `reset_messages`: 0 or 20, and the state buffer after it.
-#[unsafe(no_mangle)]
-pub extern "C" fn jt_reset_messages(state: &mut [u64]) -> u32
+pub fn jt_reset_messages(state: &mut [u64]) -> u32
     ensures answers { result ≡ number_of (call_in Calls.reset_messages state.old) }
     ensures leaves { state.new ≡ left state.old (call_in Calls.reset_messages state.old) }
 {
@@ -236,8 +211,7 @@ pub extern "C" fn jt_reset_messages(state: &mut [u64]) -> u32
 }
 
 // `reset_global_time`: 0 or 20, and the state buffer after it.
-#[unsafe(no_mangle)]
-pub extern "C" fn jt_reset_global_time(state: &mut [u64]) -> u32
+pub fn jt_reset_global_time(state: &mut [u64]) -> u32
     ensures answers { result ≡ number_of (call_in Calls.reset_global_time state.old) }
     ensures leaves { state.new ≡ left state.old (call_in Calls.reset_global_time state.old) }
 {
@@ -274,8 +248,7 @@ fn say(report: &mut [u64; 2], what: u64, value: u64) -> u32
 }
 
 // `get_status`: 0, 20 or 4, and the report after it.
-#[unsafe(no_mangle)]
-pub extern "C" fn jt_get_status(state: &[u64], id: u16, report: &mut [u64; 2]) -> u32
+pub fn jt_get_status(state: &[u64], id: u16, report: &mut [u64; 2]) -> u32
     ensures answers { result ≡ number_of (call_in (Calls.get_status id) state.now) }
     ensures tells { report.new ≡ status_after report.old (call_in (Calls.get_status id) state.now) }
 {
@@ -290,8 +263,7 @@ pub extern "C" fn jt_get_status(state: &[u64], id: u16, report: &mut [u64; 2]) -
 }
 
 // `get_messages`: 0, 20 or 13; rows and count after it.
-#[unsafe(no_mangle)]
-pub extern "C" fn jt_get_messages(state: &[u64], rows: &mut [u64], count: &mut u64) -> u32
+pub fn jt_get_messages(state: &[u64], rows: &mut [u64], count: &mut u64) -> u32
     ensures answers { result ≡ number_of (call_in (Calls.get_messages (room_in rows.old)) state.now) }
     ensures lays { rows.new ≡ listed rows.old (call_in (Calls.get_messages (room_in rows.old)) state.now) }
     ensures tells { count.new ≡ count_after count.old (call_in (Calls.get_messages (room_in rows.old)) state.now) }
@@ -306,8 +278,7 @@ pub extern "C" fn jt_get_messages(state: &[u64], rows: &mut [u64], count: &mut u
 }
 
 // `get_global_time`: 0 or 20, and the time after it.
-#[unsafe(no_mangle)]
-pub extern "C" fn jt_get_global_time(state: &[u64], time: &mut f64) -> u32
+pub fn jt_get_global_time(state: &[u64], time: &mut f64) -> u32
     ensures answers { result ≡ number_of (call_in Calls.get_global_time state.now) }
     ensures tells { time.new ≡ time_after time.old (call_in Calls.get_global_time state.now) }
 {
@@ -321,33 +292,21 @@ pub extern "C" fn jt_get_global_time(state: &[u64], time: &mut f64) -> u32
 }
 
 // How long a state buffer must be for any state of a table of these lengths; 0 where the table is too large.
-#[unsafe(no_mangle)]
-pub extern "C" fn jt_state_words(
-    models_len: usize,
-    connectors_len: usize,
-    couplings_len: usize,
-) -> usize
+pub fn jt_state_words(models_len: usize, connectors_len: usize, couplings_len: usize) -> usize
     ensures { result ≡ words_for models_len connectors_len couplings_len }
 {
     storing::state_words(models_len, connectors_len, couplings_len)
 }
 
 // How many bytes the blocks have of so many words of rows; 0 where there is no whole row, or there are more than 2^32.
-#[unsafe(no_mangle)]
-pub extern "C" fn jt_trace_bytes(rows_len: usize) -> usize
+pub fn jt_trace_bytes(rows_len: usize) -> usize
     ensures { result ≡ trace_bytes six rows_len }
 {
     trace_files::trace_bytes(rows_len)
 }
 
 // A trace's blocks, numbered from `start` on: 0 or 13; the file and its bytes after it.
-#[unsafe(no_mangle)]
-pub extern "C" fn jt_write_trace(
-    rows: &[u64],
-    start: u64,
-    file: &mut [u8],
-    written: &mut u64,
-) -> u32
+pub fn jt_write_trace(rows: &[u64], start: u64, file: &mut [u8], written: &mut u64) -> u32
     ensures answers { result ≡ number_of (write_trace six rows.now start (length file.old)) }
     ensures leaves { file.new ≡ file_after file.old (write_trace six rows.now start (length file.old)) }
     ensures tells { written.new ≡ written_after written.old (write_trace six rows.now start (length file.old)) }
@@ -362,13 +321,7 @@ pub extern "C" fn jt_write_trace(
 }
 
 // The rows of a trace from block `start` on: 0, 14 or 13; rows and report after it.
-#[unsafe(no_mangle)]
-pub extern "C" fn jt_read_trace(
-    file: &[u8],
-    start: u64,
-    rows: &mut [u64],
-    report: &mut [u64; 3],
-) -> u32
+pub fn jt_read_trace(file: &[u8], start: u64, rows: &mut [u64], report: &mut [u64; 3]) -> u32
     ensures answers { result ≡ reading_number (read_trace six file.now start (length rows.old / 6)) }
     ensures lays { rows.new ≡ rows_after rows.old (read_trace six file.now start (length rows.old / 6)) }
     ensures tells { report.new ≡ read_said (read_trace six file.now start (length rows.old / 6)) report.old }
