@@ -19,7 +19,8 @@ prefix = $(abspath $(PREFIX))
 archive := target/staticlib/libhost.a
 program := target/bin/listing
 shared := target/shared/$(so)
-crates := crates.txt $(shell find crates -type f)
+# What rt keeps in crates/*/out is no file of the crates.
+crates := crates.txt $(shell find crates -regex 'crates/[^/]*/out' -prune -o -type f -print)
 
 own_folders := libexec/jambthrush share/doc/jambthrush
 folders := bin include lib/pkgconfig share/man/man1 $(own_folders)
@@ -37,15 +38,11 @@ has_rt = command -v $(RT) > /dev/null || \
 
 $(archive): $(crates)
 	@$(has_rt)
-	$(RT) staticlib host
-	@touch -c $@
+	RT='$(RT)' scripts/build-archive
 
-# Without its stamp, rt links a program that is gone.
 $(program): $(crates) | $(archive)
 	@$(has_rt)
-	@test -x $@ || rm -f target/stamp/listing
-	$(RT) check listing
-	@touch -c $@
+	RT='$(RT)' scripts/build-listing
 
 # The archive is position independent (-z text would refuse it otherwise), and shows no name but those of the calls.
 $(shared): $(archive) Makefile

@@ -1,4 +1,4 @@
-//! Links the library: the archive that JT_LIB names, else the one that `rt staticlib host` writes.
+//! Links the library: the archive that JT_LIB names, else the one that `scripts/build-archive` writes.
 
 use std::path::Path;
 
