@@ -14,5 +14,5 @@ run-report-requires c =
 
 pub returns : goal.returns
 returns c =
-    let told = c.run-report.ensures in
+    let told = c.run-report.ensures.told in
     record { reports = told-reports c.run-report.result (steps_until c.args.services.now c.args.until (room_in c.args.rows.now) c.args.bound (sim_of c.args.state.now)) c.args.state.now c.run-report.new.mem c.args.rows.now c.run-report.new.rows told; leaves = c.write_back.ensures ∙ ap (kept c.args.state.now) told.sim }
