@@ -1,0 +1,10 @@
+-- `host::jt_reset` meets its contract. Assumes nothing.
+use mathlib.Core.Path.{ap, ◌∙◌}
+use Rattle.rules.specs.Calls as Calls
+use Rattle.storing.specs.Lent.{call_in}
+use Rattle.host.specs.Numbers.{answer_number}
+use Rattle.host.specs.NumberLaws.{answer-is}
+use Rattle.host.proofs.jt_reset.Goals as goal
+
+pub returns : goal.returns
+returns c = record { answers = c.answer_number.ensures ∙ ap answer_number c.reset.ensures.answers ∙ answer-is (call_in Calls.reset c.args.state.now); leaves = c.reset.ensures.leaves }

@@ -1,0 +1,20 @@
+-- `host::jt_write_trace` meets its contract. Assumes nothing.
+use mathlib.Core.Path.{◌∙◌}
+use lib.ListN.{length}
+use Rattle.trace_blocks.specs.Blocks.{six}
+use Rattle.trace_files.specs.declared.Written.TheVariants as written
+use Rattle.trace_files.specs.Files.{write_trace}
+use Rattle.host.specs.NumberLaws.{written-told}
+use Rattle.host.proofs.jt_write_trace.Goals as goal
+
+pub returns-in-Bytes : goal.returns-in-Bytes
+returns-in-Bytes c =
+    let a = c.args in
+    let h = written-told a.written.now (write_trace six a.rows.now a.start (length a.file.now)) c.write_trace.result (written.Bytes c.in-Bytes.bytes) c.write_trace.ensures.answers c.in-Bytes.is in
+    record { answers = h.0; leaves = c.write_trace.ensures.leaves; tells = h.1 }
+
+pub returns-in-Refused : goal.returns-in-Refused
+returns-in-Refused c =
+    let a = c.args in
+    let h = written-told a.written.now (write_trace six a.rows.now a.start (length a.file.now)) c.write_trace.result (written.Refused c.in-Refused.refusal) c.write_trace.ensures.answers c.in-Refused.is in
+    record { answers = c.number.ensures ∙ h.0; leaves = c.write_trace.ensures.leaves; tells = h.1 }
