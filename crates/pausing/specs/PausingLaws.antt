@@ -20,7 +20,7 @@ use Rattle.rerunning.specs.Running.{tail_in, sim_of}
 use Rattle.copying.specs.CopiedLaws.{laid-long}
 use Rattle.engine.specs.RunLaws.{laid_more}
 use Rattle.storing.specs.StoredLaws.{stored-inside, stored_of, stored-holds, laid-is, kept_same}
-use Rattle.chains.specs.ChainLaws.{same-table, kept-counts, zero-done}
+use Rattle.chains.proofs.ChainLaws.{same-table, kept-counts, zero-done}
 use Rattle.storing.specs.State.{changing, laid_state, over, kept, is_stored}
 use Rattle.storing.specs.Lent.{run_in}
 use Rattle.storing.specs.KeptLaws.{changing-long, kept-is, passes_on}

@@ -28,8 +28,8 @@ use Rattle.stepping.specs.Simulating.{clock_in, active_in, sim_in}
 use Rattle.rerunning.specs.Running.{tail_in, sim_of}
 use Rattle.storing.specs.State.{state_words, row_rules, rows_fit, is_stored}
 use Rattle.capacities.specs.Migration.{old_model_row, old_lent}
-use Rattle.capacities.specs.Alike.{Wider, equal, wider, Alike, empty, next, Lines, nothing, read, whole-alike, verdict-alike, all_lines}
-use Rattle.capacities.specs.States.{old_posted_in, old_sim_of, old_is_stored, migrated, stored-as-before, holds-as-before}
+use Rattle.capacities.proofs.Alike.{Wider, equal, wider, Alike, empty, next, Lines, nothing, read, whole-alike, verdict-alike, all_lines}
+use Rattle.capacities.proofs.States.{old_posted_in, old_sim_of, old_is_stored, migrated, stored-as-before, holds-as-before}
 
 -- ---- rows of wider kinds: as many, and their words stand in the same places
 rows-many : (rs ss : List Row) → Alike rs ss → length rs ≡ length ss

@@ -14,7 +14,7 @@ use Rattle.table.specs.declared.Verdict.{Verdict}
 use Rattle.table.specs.declared.Verdict.TheVariants.{TooLarge, BadRow, BadConnector, BadCoupling, Passed}
 use Rattle.table.specs.Verdicts.{verdict_of}
 use Rattle.capacities.specs.Migration.{without_end, old_capacity_in, old_model_row, old_lent, written_out}
-use Rattle.capacities.specs.Migrated.{reads-as-before}
+use Rattle.capacities.proofs.Migrated.{reads-as-before}
 
 -- ---- rows that intake cannot tell apart: id, parent and kind are the same, and whether the kind keeps its rules; a Processor's capacity may be larger in the second
 pub data Wider : Kind → Kind → Type 0 where

@@ -16,7 +16,7 @@ use Rattle.rerunning.specs.Running.{tail_in, sim_of}
 use Rattle.storing.specs.State.{state_words, rows_fit, is_stored}
 use Rattle.capacities.specs.Migration.{old_lent, written_out}
 use Rattle.capacities.specs.Parts.{replaced-behind}
-use Rattle.capacities.specs.Migrated.{reads-as-before, same_length}
+use Rattle.capacities.proofs.Migrated.{reads-as-before, same_length}
 
 -- ---- what a state held by the old reading, and what 20 asked of it
 abbrev pub old_posted_in : List ℕ → Posted

@@ -1,0 +1,2 @@
+-- The laws that rest on what the must-fail edits of specs/ change.
+pub mod ChainLaws
