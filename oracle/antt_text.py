@@ -11,20 +11,18 @@ from reading import INFINITE, UNLIMITED_CAPACITY, BatcherRow, ProcessorRow, Stop
 from scripts import RUNS
 
 NAMES = ('inf, full, proc, bat, least, most, coup, link, into, out, inner, job, inject, step, steps, until, '
-         'reset, reset-messages, reset-global-time, put-in, status, look, pPassive, pActive, bPassive, '
-         'bBatching, bRelease, sPassive, sJobFetch, parks, p0, b0, s0, c0, ran, reached, spent, stopped, '
+         'reset, reset-messages, reset-global-time, put_in, status, look, p_passive, p_active, b_passive, '
+         'b_batching, b_release, s_passive, s_job_fetch, parks, p0, b0, s0, c0, ran, reached, spent, stopped, '
          'refuses, says, holds, seen, play')
 HEAD = '''\
 -- Answers of the oracle, computed over the rules: cases {first} to {last}. \
 The number above a case is its script's (--show). Written by oracle/write_cases.py. Assumes nothing.
-use Prim.Native.Nat.{{ℕ}}
-use mathlib.Core.Path.{{_≡_, refl}}
-use mathlib.Core.List.{{List, [], _∷_}}
-use mathlib.Core.Option.{{Option, none, some}}
-use Rattle·rules.specs.declared.ProcessorPhase.the-variants as working
-use Rattle·rules.specs.declared.BatcherPhase.the-variants as batching
-use Rattle·rules.specs.Calls.{{OfProcessor, OfBatcher, Mean, ParkedCount}}
-use «Rattle·oracle_cases·specs».specs.Common.{{{names}}}
+use Rattle.std.specs.Prelude.{{ℕ, ◌≡◌, refl, List, [], ◌∷◌}}
+use Rattle.std.proofs.Math.Option.{{Option, none, some}}
+use Rattle.rules.specs.declared.ProcessorPhase.TheVariants as working
+use Rattle.rules.specs.declared.BatcherPhase.TheVariants as batching
+use Rattle.rules.specs.Calls.{{OfProcessor, OfBatcher, Mean, ParkedCount}}
+use Rattle.oracle_cases.specs.Common.{{{names}}}
 '''
 STATUSES = {
     'error ModelNotFound': 'refuses 4',
@@ -164,7 +162,7 @@ def call_text(call):
     if call.name == 'status':
         return applied('status', *call.arguments)
     if call.name == 'put':
-        return 'put-in ' + table_text(call.arguments[0])
+        return 'put_in ' + table_text(call.arguments[0])
     return call.name.replace('_', '-')
 
 
@@ -188,7 +186,8 @@ def model_text(model):
         held = [mark_text(*mark) for mark in model.held]
     else:
         held = map(str, model.held)
-    return f'{letter}{model.phase} {number_text(model.timer)} {argument(held)}'
+    phase = re.sub('(?<!^)([A-Z])', r'_\1', model.phase).lower()
+    return f'{letter}_{phase} {number_text(model.timer)} {argument(held)}'
 
 
 def state_text(told, rows):
