@@ -186,7 +186,7 @@ def model_text(model):
         held = [mark_text(*mark) for mark in model.held]
     else:
         held = map(str, model.held)
-    phase = re.sub('(?<!^)([A-Z])', r'_\1', model.phase).lower()
+    phase = re.sub(r'(?<=[a-z])(?=[A-Z])', '_', model.phase).lower()
     return f'{letter}_{phase} {number_text(model.timer)} {argument(held)}'
 
 
