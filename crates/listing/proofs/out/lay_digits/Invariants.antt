@@ -1,4 +1,4 @@
-use Rattle.std.proofs.Common.{◌≤◌, ◌≡◌, length}
+use Rattle.std.proofs.Common.{◌≤◌}
 use Rattle.listing.proofs.out.lay_digits.Given as goal
 
 abbrev pub invariant-loop-at : goal.invariant-loop-at
