@@ -7,11 +7,8 @@ use Rattle.std.specs.Float.Ieee.Bits.{of_bits-to_bits, is_true}
 use Rattle.times.specs.Time.{clear, never, is_time, is_timer}
 use Rattle.times.proofs.Laws.{time-fits, timer-fits, timer-clear, time-timer, never-timer}
 use Rattle.times.proofs.Patterns.{infinite, time-bits, timer-bits, clear-bits}
-use Rattle.times.specs.declared.TimeOf.{TimeOf}
 use Rattle.times.specs.declared.TimeOf.TheVariants.{Time, Bad}
-use Rattle.times.specs.declared.TimerOf.{TimerOf}
 use Rattle.times.specs.declared.TimerOf.TheVariants.{Timer, NoTimer}
-use Rattle.times.specs.declared.Later.{Later}
 use Rattle.times.specs.declared.Later.TheVariants.{Clock, Overflow}
 use Rattle.times.specs.Answers.{answer, time_of_bits, timer_of_bits, later_of}
 

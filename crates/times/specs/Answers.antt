@@ -1,10 +1,8 @@
 -- What the functions that answer with an enum answer, and what each answer says. Assumes nothing.
-use Rattle.std.specs.Prelude.{◌≡◌, refl, ℕ, Bool, true, false, cond, T, Float}
-use Rattle.std.proofs.Common.{sym, ap, ◌∙◌, subst, arith, ne_eqb}
+use Rattle.std.specs.Prelude.{ℕ, Bool, cond, Float}
 use Rattle.std.specs.Float.{binary64}
-use Rattle.std.specs.Float.Ieee.{add, fits, of_bits, to_bits}
-use Rattle.std.specs.Float.Ieee.Bits.{of_bits-to_bits, is_true}
-use Rattle.times.specs.Time.{clear, never, is_time, is_timer}
+use Rattle.std.specs.Float.Ieee.{add, of_bits}
+use Rattle.times.specs.Time.{is_time, is_timer}
 use Rattle.times.specs.declared.TimeOf.{TimeOf}
 use Rattle.times.specs.declared.TimeOf.TheVariants.{Time, Bad}
 use Rattle.times.specs.declared.TimerOf.{TimerOf}

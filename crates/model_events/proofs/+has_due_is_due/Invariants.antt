@@ -1,7 +1,7 @@
 -- `model_events::is_due` and `has_due` meet their contracts. The loop: whether one of the components left is due is whether one of all is. Assumes nothing.
 use mathlib.Core.Path.{◌≡◌}
 use lib.ListN.{length}
-use Rattle.rules.specs.Base.{done, some_of, those}
+use Rattle.rules.specs.Base.{some_of, those}
 use Rattle.rules.specs.Base as Base
 use Rattle.rules.specs.Table.{id_at, components}
 use Rattle.rules.specs.Step.{due}

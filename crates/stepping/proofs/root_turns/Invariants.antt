@@ -3,7 +3,6 @@ use Prim.Native.Nat.{◌-◌}
 use mathlib.Core.Path.{◌≡◌}
 use lib.ListN.{length}
 use Rattle.rules.specs.Step as Step
-use Rattle.rules.specs.Step.{levels}
 use Rattle.lookup.specs.Inside.{table_in}
 use Rattle.views.specs.Messages.{messages_in}
 use Rattle.sweeps.specs.Adding.{Adding}
