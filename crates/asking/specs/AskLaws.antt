@@ -1,5 +1,5 @@
 -- The laws of what a stored state is asked: the changing part as it is lent, a row's status by the kind that a reader names, and the search for a model without parent by its id. Assumes nothing.
-use Rattle.std.specs.Prelude.{ℕ, suc, ◌+◌, ◌-◌, ◌≤◌, ◌<◌, ◌≡◌, refl, Bool, List, [], ◌∷◌, length, take, drop, T, eqb, Float}
+use Rattle.std.specs.Prelude.{ℕ, suc, ◌+◌, ◌-◌, ◌≤◌, ◌<◌, ◌≡◌, refl, Bool, List, [], ◌∷◌, length, take, drop, T, eqb, Float, None, Some}
 use Rattle.std.proofs.Common.{sym, ap, ◌∙◌, arith, le_of_eq, add-one, eq-eqb, ne_eqb, length-drop, take_all, length-take-le, leb→le}
 use Rattle.std.proofs.Math.Option.{Option, none, some}
 use Rattle.std.proofs.Math.Nat.{sub-zero}
@@ -14,7 +14,6 @@ use Rattle.rules.specs.Models.{durations, mean}
 use Rattle.rules.specs.Ends.{nil, ◌&◌}
 use Rattle.rules.specs.Calls as Calls
 use Rattle.rules.specs.Calls.{status_of, status_of_first, get_status}
-use Rattle.words.specs.declared.Found.TheVariants.{At, Nothing}
 use Rattle.words.specs.Lists.{part_length}
 use Rattle.words.specs.Search.{first_from}
 use Rattle.words.specs.SearchLaws.{search-end, first-at, first-nothing}
@@ -91,19 +90,19 @@ module _ (id : ℕ) (t : Table) where
   wanted k = those has_id (those (is_root t) (from k (length t.rows - k)))
 
   -- the search goes from one model without parent to the next
-  roots-next : (k j : ℕ) → first_from (is_root t) k (length t.rows - k) ≡ At j → those (is_root t) (from k (length t.rows - k)) ≡ j ∷ those (is_root t) (from (j + 1) (length t.rows - (j + 1)))
+  roots-next : (k j : ℕ) → first_from (is_root t) k (length t.rows - k) ≡ Some j → those (is_root t) (from k (length t.rows - k)) ≡ j ∷ those (is_root t) (from (j + 1) (length t.rows - (j + 1)))
   roots-next k j e =
       let first = first-at (is_root t) k (length t.rows - k) j e in
       let left : k + (length t.rows - k) - suc j ≡ length t.rows - (j + 1) = omega arith in
       first.3 ∙ rw (left, add-one)
 
-  pub wanted-none : (k : ℕ) → first_from (is_root t) k (length t.rows - k) ≡ Nothing → wanted k ≡ []
+  pub wanted-none : (k : ℕ) → first_from (is_root t) k (length t.rows - k) ≡ None → wanted k ≡ []
   wanted-none k e = ap (those has_id) (first-nothing (is_root t) k (length t.rows - k) e)
 
   pub wanted-end : (k : ℕ) → length t.rows ≤ k → wanted k ≡ []
   wanted-end k l = wanted-none k (search-end (is_root t) k (length t.rows) l)
 
-  module _ (k j : ℕ) (e : first_from (is_root t) k (length t.rows - k) ≡ At j) where
+  module _ (k j : ℕ) (e : first_from (is_root t) k (length t.rows - k) ≡ Some j) where
     pub wanted-here : id_at t j ≡ id → wanted k ≡ j ∷ wanted (j + 1)
     wanted-here h = ap (those has_id) (roots-next k j e) ∙ rw (eq-eqb (id_at t j) id h)
 

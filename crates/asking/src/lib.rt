@@ -16,7 +16,6 @@ ghost use Rattle.asking.specs.Told.{mean_told, status_told, status_answered};
 use marks::MeanOf;
 use rules::{BatcherPhase, ProcessorPhase, Refusal};
 use table::Kind;
-use words::Found;
 
 // 01, "Status", or a refusal.
 #[derive(Clone, Copy)]
@@ -120,8 +119,8 @@ pub fn get_status(state: &[u64], id: u16) -> Status
     let mut from = 0;
     while from < end {
         match lookup::next_parentless(state, from) {
-            Found::Nothing => return Status::Refused(Refusal::ModelNotFound),
-            Found::At(row) => {
+            None => return Status::Refused(Refusal::ModelNotFound),
+            Some(row) => {
                 if lookup::id_of(state, row) == id as u64 {
                     return status_at(state, row);
                 }

@@ -1,4 +1,5 @@
 -- What the rules say of a batcher's events, case by case, by the number of jobs held. Assumes nothing.
+use Rattle.std.specs.Prelude.{Ok}
 use mathlib.Core.Path.{◌≡◌, refl, ap, ◌∙◌}
 use mathlib.Core.Bool.{Bool, true, false}
 use mathlib.Core.List.{List, [], ◌∷◌}
@@ -21,7 +22,6 @@ use Rattle.rules.specs.Table as Table
 use Rattle.rules.specs.Simulation as Simulation
 use Rattle.rules.specs.Models.{keep, joining, batcher_external, batcher_internal}
 use Rattle.rules.specs.Valid.{model_fits}
-use Rattle.events.specs.declared.Gone.TheVariants as gone
 use Rattle.batcher.specs.declared.BatcherState.{BatcherState}
 use Rattle.batcher.specs.Batching.{batcher_of, fresh, unchanged, kept_as, Took, Went}
 use Rattle.events.specs.Held.{one_more}
@@ -66,21 +66,21 @@ module _ (row : Batcher) (job : ℕ) (s : BatcherState) (queue : List ℕ) (e : 
 
 -- ---- internal events
 module _ (row : Batcher) (s : BatcherState) (queue : List ℕ) (e : length queue ≡ s.held) where
-  pub all_go : s.held ≤ row.max_batch_size → Went s queue (record { next = fresh; answer = gone.Out s.held }) (done (batcher_internal row (batcher_of s queue)))
+  pub all_go : s.held ≤ row.max_batch_size → Went s queue (record { next = fresh; answer = Ok s.held }) (done (batcher_internal row (batcher_of s queue)))
   unfolding batcher_internal
   all_go h =
       let m : length queue ≤ row.max_batch_size = omega arith in
       rw (← e) (record { tells = rw (le-leb _ _ m, take-length, drop-length); holds = ap length (drop-length queue); within = omega arith })
 
   module _ (many : row.max_batch_size < s.held) where
-    pub batch-goes : row.max_batch_size ≤ s.held - row.max_batch_size → Went s queue (record { next = record { phase = batching.Release; timer = instant; held = s.held - row.max_batch_size }; answer = gone.Out row.max_batch_size }) (done (batcher_internal row (batcher_of s queue)))
+    pub batch-goes : row.max_batch_size ≤ s.held - row.max_batch_size → Went s queue (record { next = record { phase = batching.Release; timer = instant; held = s.held - row.max_batch_size }; answer = Ok row.max_batch_size }) (done (batcher_internal row (batcher_of s queue)))
     unfolding batcher_internal
     batch-goes h =
         let m : row.max_batch_size < length queue = omega arith in
         let t : 2 * row.max_batch_size ≤ length queue = omega arith in
         record { tells = rw (lt-leb _ _ m, le-leb _ _ t); holds = simp length-drop (omega arith); within = omega arith }
 
-    pub rest-waits : s.held - row.max_batch_size < row.max_batch_size → Went s queue (record { next = record { phase = batching.Batching; timer = row.max_batch_time; held = s.held - row.max_batch_size }; answer = gone.Out row.max_batch_size }) (done (batcher_internal row (batcher_of s queue)))
+    pub rest-waits : s.held - row.max_batch_size < row.max_batch_size → Went s queue (record { next = record { phase = batching.Batching; timer = row.max_batch_time; held = s.held - row.max_batch_size }; answer = Ok row.max_batch_size }) (done (batcher_internal row (batcher_of s queue)))
     unfolding batcher_internal
     rest-waits h =
         let m : row.max_batch_size < length queue = omega arith in

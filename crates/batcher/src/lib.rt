@@ -10,7 +10,7 @@ ghost use Rattle.rules.specs.Models as Models;
 ghost use Rattle.rules.specs.Valid as Valid;
 ghost use Rattle.batcher.specs.Batching.{batcher_of, fresh, unchanged, kept_as, Took, Went};
 
-use events::{Gone, Taken};
+use events::Taken;
 use rules::{Batcher, BatcherPhase, Refusal};
 
 #[derive(Clone, Copy)]
@@ -31,7 +31,7 @@ pub struct BatcherTaken {
 #[derive(Clone, Copy)]
 pub struct BatcherGone {
     pub next: BatcherState,
-    pub answer: Gone,
+    pub answer: Result<u64, Refusal>,
 }
 
 // The maximum, in its full width.
@@ -125,7 +125,7 @@ impl BatcherState {
         if self.held <= most {
             return BatcherGone {
                 next: BatcherState::new(),
-                answer: Gone::Out(self.held),
+                answer: Ok(self.held),
             };
         }
         let rest = self.held - most;
@@ -136,7 +136,7 @@ impl BatcherState {
                     timer: 0.0,
                     held: rest,
                 },
-                answer: Gone::Out(most),
+                answer: Ok(most),
             };
         }
         BatcherGone {
@@ -145,7 +145,7 @@ impl BatcherState {
                 timer: row.max_batch_time,
                 held: rest,
             },
-            answer: Gone::Out(most),
+            answer: Ok(most),
         }
     }
 
@@ -168,7 +168,7 @@ impl BatcherState {
         }
         BatcherGone {
             next: self,
-            answer: Gone::Refused(Refusal::BadState),
+            answer: Err(Refusal::BadState),
         }
     }
 }

@@ -1,12 +1,11 @@
 -- What the answers of events mean: 01's number, or what was done, for each case. Definitions only. Assumes nothing.
-use Rattle.std.specs.Prelude.{ℕ, List, [], ◌∷◌, ◌++◌, take, Float}
+use Rattle.std.specs.Prelude.{ℕ, List, [], ◌∷◌, ◌++◌, take, Float, Err, Ok, Result}
+use Rattle.rules.specs.declared.Refusal.{Refusal}
 use Rattle.rules.specs.Base.{Outcome, refused, done}
 use Rattle.rules.specs.Models as Models
 use Rattle.rules.specs.Models.{Fate}
 use Rattle.events.specs.declared.Taken.{Taken}
 use Rattle.events.specs.declared.Taken.TheVariants as taken
-use Rattle.events.specs.declared.Gone.{Gone}
-use Rattle.events.specs.declared.Gone.TheVariants as gone
 use Rattle.events.specs.declared.Service.{Service}
 use Rattle.events.specs.declared.Service.TheVariants as service
 
@@ -44,10 +43,10 @@ queue_after taken.Asked queue job = queue
 queue_after (taken.Refused r) queue job = queue
 
 -- how many jobs go out, from the front of the queue
-abbrev pub count_of : Gone → ℕ
-count_of (gone.Out n) = n
-count_of (gone.Refused r) = 0
+abbrev pub count_of : Result ℕ Refusal → ℕ
+count_of (Ok n) = n
+count_of (Err r) = 0
 
-abbrev pub out_of : Gone → List ℕ → Outcome (List ℕ)
-out_of (gone.Out n) queue = done (take n queue)
-out_of (gone.Refused r) queue = refused r
+abbrev pub out_of : Result ℕ Refusal → List ℕ → Outcome (List ℕ)
+out_of (Ok n) queue = done (take n queue)
+out_of (Err r) queue = refused r

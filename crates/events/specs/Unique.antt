@@ -1,5 +1,6 @@
 -- An answer is told by its meaning, and there is a queue of every length: so a contract over every queue is met by one answer alone. Assumes nothing.
-use Rattle.std.specs.Prelude.{ℕ, zero, suc, ◌≤◌, ◌≡◌, refl, List, [], ◌∷◌, length, take, T}
+use Rattle.std.specs.Prelude.{ℕ, zero, suc, ◌≤◌, ◌≡◌, refl, List, [], ◌∷◌, length, take, T, Err, Ok, Result}
+use Rattle.rules.specs.declared.Refusal.{Refusal}
 use Rattle.std.proofs.Common.{arith, sym, ap, ◌∙◌, length-take-le}
 use Rattle.rules.specs.Sizes.{is_content}
 use Rattle.rules.specs.Base.{Outcome, refused, done, every}
@@ -7,8 +8,6 @@ use Rattle.rules.specs.Models as Models
 use Rattle.rules.specs.Models.{Fate}
 use Rattle.events.specs.declared.Taken.{Taken}
 use Rattle.events.specs.declared.Taken.TheVariants as taken
-use Rattle.events.specs.declared.Gone.{Gone}
-use Rattle.events.specs.declared.Gone.TheVariants as gone
 use Rattle.events.specs.Meaning.{fate_of, count_of, out_of}
 
 -- there is a queue of every length, of 32-bit contents
@@ -48,8 +47,8 @@ same_taken a b h = sym (taken_back a) ∙ ap taken_of h ∙ taken_back b
 same_count : (queue : List ℕ) (m n : ℕ) → m ≤ length queue → n ≤ length queue → take m queue ≡ take n queue → m ≡ n
 same_count queue m n p q h = sym (length-take-le m queue p) ∙ ap length h ∙ length-take-le n queue q
 
-pub same-gone : (queue : List ℕ) (a b : Gone) → count_of a ≤ length queue → count_of b ≤ length queue → out_of a queue ≡ out_of b queue → a ≡ b
-same-gone queue (gone.Out m) (gone.Out n) p q h = ap gone.Out (same_count queue m n p q (cc))
-same-gone queue (gone.Out m) (gone.Refused r) p q h = let z : ◌≡◌ {A = ℕ} 0 1 = cc in absurd (omega arith)
-same-gone queue (gone.Refused r) (gone.Out n) p q h = let z : ◌≡◌ {A = ℕ} 0 1 = cc in absurd (omega arith)
-same-gone queue (gone.Refused r) (gone.Refused t) p q h = cc
+pub same-gone : (queue : List ℕ) (a b : Result ℕ Refusal) → count_of a ≤ length queue → count_of b ≤ length queue → out_of a queue ≡ out_of b queue → a ≡ b
+same-gone queue (Ok m) (Ok n) p q h = ap Ok (same_count queue m n p q (cc))
+same-gone queue (Ok m) (Err r) p q h = let z : ◌≡◌ {A = ℕ} 0 1 = cc in absurd (omega arith)
+same-gone queue (Err r) (Ok n) p q h = let z : ◌≡◌ {A = ℕ} 0 1 = cc in absurd (omega arith)
+same-gone queue (Err r) (Err t) p q h = cc

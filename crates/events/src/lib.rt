@@ -18,13 +18,6 @@ pub enum Taken {
     Refused(Refusal),
 }
 
-// What goes out: so many jobs from the front of the queue.
-#[derive(Clone, Copy)]
-pub enum Gone {
-    Out(u64),
-    Refused(Refusal),
-}
-
 #[derive(Clone, Copy)]
 pub enum Service {
     // The time, and the place after it.

@@ -1,4 +1,5 @@
 -- One message parked and then put out is handed on as the rules say; and so are all, one after the other. Assumes nothing.
+use Rattle.std.specs.Prelude.{Err, Ok, Result, Some}
 use Prim.Native.Nat.{ℕ, ◌+◌, ◌-◌, ◌≤◌, ◌<◌}
 use mathlib.Core.Path.{◌≡◌, refl, sym, ap, subst, ◌∙◌}
 use mathlib.Core.Logic.{inl, inr}
@@ -14,13 +15,9 @@ use Rattle.rules.specs.Base.{Outcome, done, ◌>>=◌, each, those, from, at_mos
 use Rattle.rules.specs.Sizes.{most_out}
 use Rattle.rules.specs.Table.{Table, id_at}
 use Rattle.rules.specs.Step.{Out, Happening, World, hand}
-use Rattle.words.specs.declared.Found.TheVariants.{At}
 use Rattle.words.specs.Search.{first_from}
 use Rattle.words.specs.SearchLaws.{search-hit}
 use Rattle.selection.specs.Selected.{each_map}
-use Rattle.memory.specs.declared.Answer.TheVariants as answer
-use Rattle.memory.specs.declared.Put.{Put}
-use Rattle.memory.specs.declared.Put.TheVariants as put
 use Rattle.memory.specs.Words.{word_at}
 use Rattle.memory.specs.View.{out_of, outs_in}
 use Rattle.views.specs.World.{end_of, world_in, Ready, Frame, Moves, Does}
@@ -43,7 +40,7 @@ module _ (t : Table) (services : List Float) (i j : ℕ) (m : Out) (at count : �
       ∙ (λ n. map (λ x. out_of (frame.high (at + x) (omega arith) (inr (omega arith)) n)) (from 0 count))
       ∙ sym (outs-read at count mem (omega arith)))
 
-  pub hand-stops : (r : Refusal) → Does (answer.Refused r) (park_from t i (id_at t j) m.port m.content) t mem mid → Hands (put.Refused r) count at (hand t services i j m) t mem mid
+  pub hand-stops : (r : Refusal) → Does (Err r) (park_from t i (id_at t j) m.port m.content) t mem mid → Hands (Err r) count at (hand t services i j m) t mem mid
   hand-stops r parks = λ log. ap (λ (o : Outcome World). o >>= λ w. at_most most_out NoMessageRoom (outs_in at count mem ++ more-outs) >>= λ out. done (w, out)) (parks log)
 
   module _ (parks : Moves (park_from t i (id_at t j) m.port m.content) t mem mid) (after : List ℕ) (beside : Beside at mid after) where
@@ -56,8 +53,8 @@ module _ (t : Table) (services : List Float) (i j : ℕ) (m : Out) (at count : �
         ap (λ (o : Outcome World). o >>= λ w. at_most most_out NoMessageRoom (outs_in at count mem ++ more-outs) >>= λ out. done (w, out)) (parks.is log)
         ∙ ap (λ (l : List Out). at_most most_out NoMessageRoom (l ++ more-outs) >>= λ out. done (world_in t mid (parks.more log), out)) outs-same
 
-    pub hand-puts : (r : Put) → Fills r at count more-outs mid after → Hands r count at (hand t services i j m) t mem after
-    hand-puts (put.Out n) fills = record {
+    pub hand-puts : (r : Result ℕ Refusal) → Fills r at count more-outs mid after → Hands r count at (hand t services i j m) t mem after
+    hand-puts (Ok n) fills = record {
       ready = far-ready t mid after beside.long same parks.ready;
       few = fills.few;
       more = parks.more;
@@ -66,7 +63,7 @@ module _ (t : Table) (services : List Float) (i j : ℕ) (m : Out) (at count : �
           ∙ ap (λ (o : Outcome (List Out)). o >>= λ out. done (world_in t mid (parks.more log), out)) fills.is
           ∙ ap (λ (w : World). done (w, outs_in at n after)) (sym (far-world t mid after beside.long same (parks.more log)));
     }
-    hand-puts (put.Refused r) fills = λ log. hand-is log ∙ ap (λ (o : Outcome (List Out)). o >>= λ out. done (world_in t mid (parks.more log), out)) fills
+    hand-puts (Err r) fills = λ log. hand-is log ∙ ap (λ (o : Outcome (List Out)). o >>= λ out. done (world_in t mid (parks.more log), out)) fills
 
   pub hand-frame : (after : List ℕ) → Beside at mid after → Frame t at (at + 256) mem after
   hand-frame after beside =
@@ -117,18 +114,18 @@ module _ (t : Table) (i j start messages at count : ℕ) (mem₀ : List ℕ) whe
       here log = (world_in t mem log, outs_in at held mem)
 
       -- the next message is still the one that was there
-      module _ (below : k < messages) (after : List ℕ) (r : Put) (hands : (services : List Float) → Hands r held at (hand t services i j (out_of (word_at mem (start + k)))) t mem after) where
-        next-hands : (s : Put) → r ≡ s → (services : List Float) → Hands s held at (hand_at services k) t mem after
+      module _ (below : k < messages) (after : List ℕ) (r : Result ℕ Refusal) (hands : (services : List Float) → Hands r held at (hand t services i j (out_of (word_at mem (start + k)))) t mem after) where
+        next-hands : (s : Result ℕ Refusal) → r ≡ s → (services : List Float) → Hands s held at (hand_at services k) t mem after
         next-hands s e services =
             subst (λ (word : ℕ). Hands s held at (hand t services i j (out_of word)) t mem after) (so_far.frame.high (start + k) (omega arith) (inr (omega arith)))
-            (subst (λ (z : Put). Hands z held at (hand t services i j (out_of (word_at mem (start + k)))) t mem after) e (hands services))
+            (subst (λ (z : Result ℕ Refusal). Hands z held at (hand t services i j (out_of (word_at mem (start + k)))) t mem after) e (hands services))
 
-        found : first_from (λ _. true) k (messages - k) ≡ At k
+        found : first_from (λ _. true) k (messages - k) ≡ Some k
         found = search-hit (λ _. true) k messages below refl
 
-        pub handing-on : (n : ℕ) → r ≡ put.Out n → Frame t at (at + 256) mem after → Handing (k + 1) n after
+        pub handing-on : (n : ℕ) → r ≡ Ok n → Frame t at (at + 256) mem after → Handing (k + 1) n after
         handing-on n e frame =
-            let adds = next-hands (put.Out n) e in
+            let adds = next-hands (Ok n) e in
             record {
               ready = (adds []).ready;
               few = (adds []).few;
@@ -138,12 +135,12 @@ module _ (t : Table) (i j start messages at count : ℕ) (mem₀ : List ℕ) whe
                   (record { more = (adds services).more; is = (adds services).is });
             }
 
-        pub handing-stops : (x : Refusal) → r ≡ put.Refused x → (services : List Float) → Hands (put.Refused x) count at (λ s. each (hand t services i j) (outs_in start messages mem₀) s) t mem₀ after
+        pub handing-stops : (x : Refusal) → r ≡ Err x → (services : List Float) → Hands (Err x) count at (λ s. each (hand t services i j) (outs_in start messages mem₀) s) t mem₀ after
         handing-stops x e services = λ log.
             hands-all services (world_in t mem₀ log, outs_in at count mem₀)
-            ∙ onward_stops (hand_at services) (λ _. true) k messages (hands_all services) here (so_far.onward services) k x found (next-hands (put.Refused x) e services) log
+            ∙ onward_stops (hand_at services) (λ _. true) k messages (hands_all services) here (so_far.onward services) k x found (next-hands (Err x) e services) log
 
-      pub handing-end : messages ≤ k → (services : List Float) → Hands (put.Out held) count at (λ s. each (hand t services i j) (outs_in start messages mem₀) s) t mem₀ mem
+      pub handing-end : messages ≤ k → (services : List Float) → Hands (Ok held) count at (λ s. each (hand t services i j) (outs_in start messages mem₀) s) t mem₀ mem
       handing-end past services =
           let l = onward-end (hand_at services) (λ _. true) k messages (hands_all services) here (so_far.onward services) past in
           record { ready = so_far.ready; few = so_far.few; more = l.more; is = λ log. hands-all services (world_in t mem₀ log, outs_in at count mem₀) ∙ l.is log }

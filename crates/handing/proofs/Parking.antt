@@ -1,4 +1,5 @@
 -- Messages parked one coupling at a time are the rules' `park`; and one that is parked in a row's words is parked in the world. Assumes nothing.
+use Rattle.std.specs.Prelude.{Err, Ok, Option, Result, tt, ⊤}
 use Prim.Native.Nat.{ℕ, ◌-◌, ◌^◌, ◌≤◌, ◌<◌}
 use mathlib.Core.Path.{◌≡◌, refl, sym, ap, subst, subst₂, ◌∙◌}
 use mathlib.Core.Logic.{inr}
@@ -19,12 +20,9 @@ use Rattle.rules.specs.Valid.{parked_rules, coupled_rules, state_fits}
 use Rattle.rules.specs.Ends.{All, nil, ◌&◌, all_append, all-every, parts, whole_of, ends-most, ends-done}
 use Rattle.rules.proofs.Least.{Fitted}
 use Rattle.rules.proofs.Worlds.{Good, fitted-set, ParkedFits, parked-fit}
-use Rattle.words.specs.declared.Found.{Found}
 use Rattle.words.specs.Search.{first_from}
 use Rattle.selection.specs.Selecting.{is_internal}
 use Rattle.selection.specs.Selected.{leads_to, each_map}
-use Rattle.memory.specs.declared.Answer.{Answer}
-use Rattle.memory.specs.declared.Answer.TheVariants as answer
 use Rattle.memory.specs.Words.{place_in, begin_in, width_of, Own}
 use Rattle.memory.specs.View.{parked_in, state_in, WordsFit, Row}
 use Rattle.parked_rows.specs.Parking.{with_one, Parks}
@@ -124,9 +122,9 @@ module _ (t : Table) (i : ℕ) (inside : i < length t.rows) (is : kind_at t i �
             ∙ (λ n. done (record { states = sym states n; place = sym place n; log = log }));
       }
 
-    park-lifts : (r : Answer) → Parks r b i mem after m → Does r (park_one i m) t mem after
-    park-lifts answer.Done parks = moves parks.is parks.words
-    park-lifts (answer.Refused r) parks = λ log. one-is log ∙ ap (λ (o : Outcome (List Parked)). o >>= λ parked. done (becomes i (of_coupled parked) (world_in t mem log))) parks
+    park-lifts : (r : Result ⊤ Refusal) → Parks r b i mem after m → Does r (park_one i m) t mem after
+    park-lifts (Ok tt) parks = moves parks.is parks.words
+    park-lifts (Err r) parks = λ log. one-is log ∙ ap (λ (o : Outcome (List Parked)). o >>= λ parked. done (becomes i (of_coupled parked) (world_in t mem log))) parks
 
 -- ---- a message is parked along each coupling that matches
 module _ (state : List ℕ) (i source port content : ℕ) where
@@ -151,7 +149,7 @@ module _ (state : List ℕ) (i source port content : ℕ) where
         ∙ map-map (parked_as content) (leads_to (couplings_in state)) (those is_along (from 0 (length (table_in state).couplings)))
 
     -- what a search answers, by the Coupled's id as it was read
-    pub found-along : (owner : ℕ) → owner ≡ id_at (table_in state) i → (k : ℕ) (r f : Found) → r ≡ first_from (is_internal (couplings_in state) owner source port) k (length (table_in state).couplings - k) → r ≡ f
+    pub found-along : (owner : ℕ) → owner ≡ id_at (table_in state) i → (k : ℕ) (r f : Option ℕ) → r ≡ first_from (is_internal (couplings_in state) owner source port) k (length (table_in state).couplings - k) → r ≡ f
         → first_from is_along k (length (table_in state).couplings - k) ≡ f
     found-along owner e k r f h g = ap (λ (o : ℕ). first_from (is_internal (couplings_in state) o source port) k (length (table_in state).couplings - k)) (sym e) ∙ sym h ∙ g
 
@@ -195,7 +193,7 @@ module _ (state : List ℕ) (i source port content : ℕ) where
           pub parks-frame : Frame (table_in state) 0 0 mem after
           parks-frame = park-frame (table_in state) i inside is mem ready (parked_as content (leads_to (couplings_in state) k)) target_fits after own place
 
-          pub parks-at : (r : Answer) → Parks r (begin_in mem i) i mem after (record { component = id; port = to; content = content }) → (s : Answer) → r ≡ s → Does s (park_at k) (table_in state) mem after
+          pub parks-at : (r : Result ⊤ Refusal) → Parks r (begin_in mem i) i mem after (record { component = id; port = to; content = content }) → (s : Result ⊤ Refusal) → r ≡ s → Does s (park_at k) (table_in state) mem after
           parks-at r parks s g =
               park-lifts (table_in state) i inside is mem ready (parked_as content (leads_to (couplings_in state) k)) target_fits after own place s
-              (subst₂ (λ (m : Parked) (a : Answer). Parks a (begin_in mem i) i mem after m) (λ n. record { component = e n; port = f n; content = content }) g parks)
+              (subst₂ (λ (m : Parked) (a : Result ⊤ Refusal). Parks a (begin_in mem i) i mem after m) (λ n. record { component = e n; port = f n; content = content }) g parks)

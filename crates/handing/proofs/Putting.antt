@@ -1,4 +1,5 @@
 -- Messages put out one coupling at a time, each in the next word, are what the rules put out. Assumes nothing.
+use Rattle.std.specs.Prelude.{None, Option, Some}
 use Prim.Native.Nat.{ℕ, ◌+◌, ◌-◌, ◌^◌, ◌≤◌, ◌<◌}
 use mathlib.Core.Path.{◌≡◌, sym, ap, ◌∙◌}
 use mathlib.Core.Bool.{Bool}
@@ -10,8 +11,6 @@ use Rattle.rules.specs.declared.Refusal.TheVariants.{NoMessageRoom}
 use Rattle.rules.specs.Base.{Outcome, refused, done, each, those, from, at_most}
 use Rattle.rules.specs.Sizes.{most_out}
 use Rattle.rules.specs.Step.{Out, out_at}
-use Rattle.words.specs.declared.Found.{Found}
-use Rattle.words.specs.declared.Found.TheVariants.{At, Nothing}
 use Rattle.words.specs.Search.{first_from}
 use Rattle.words.specs.QueueLaws.{push-holds}
 use Rattle.selection.specs.Selecting.{is_output}
@@ -64,7 +63,7 @@ module _ (state : List ℕ) (owner source port content at count : ℕ) (mem₀ :
   }
 
   -- what a search answers
-  pub found-out : (k : ℕ) (r f : Found) → r ≡ first_from is_out k (couplings - k) → r ≡ f → first_from is_out k (couplings - k) ≡ f
+  pub found-out : (k : ℕ) (r f : Option ℕ) → r ≡ first_from is_out k (couplings - k) → r ≡ f → first_from is_out k (couplings - k) ≡ f
   found-out k r f h g = sym h ∙ g
 
   module _ (table : Inside state) (few₀ : count ≤ 256) (room₀ : at + 256 ≤ length mem₀) where
@@ -84,7 +83,7 @@ module _ (state : List ℕ) (owner source port content at count : ℕ) (mem₀ :
       room = omega (arith, so_far.beside.long)
 
       -- the next one has room, or has not
-      module _ (j : ℕ) (found : first_from is_out k (couplings - k) ≡ At j) where
+      module _ (j : ℕ) (found : first_from is_out k (couplings - k) ≡ Some j) where
         abbrev next : List Out
         next = outs_in at held mem ++ out_at (leads_to (couplings_in state) j).port content ∷ []
 
@@ -116,7 +115,7 @@ module _ (state : List ℕ) (owner source port content at count : ℕ) (mem₀ :
       ended : Leads (λ log. puts_all) (λ log. log) (λ log. outs_in at held mem) → Adds-to held at count (outs_from (table_in state) owner source port content) mem₀ mem
       ended l = record { few = so_far.few; is = puts-all ∙ l.is [] }
 
-      pub put-none : first_from is_out k (couplings - k) ≡ Nothing → Adds-to held at count (outs_from (table_in state) owner source port content) mem₀ mem
+      pub put-none : first_from is_out k (couplings - k) ≡ None → Adds-to held at count (outs_from (table_in state) owner source port content) mem₀ mem
       put-none found = ended (onward-none put_at is_out k couplings (λ log. puts_all) (λ log. outs_in at held mem) so_far.onward found)
 
       pub put-end : couplings ≤ k → Adds-to held at count (outs_from (table_in state) owner source port content) mem₀ mem

@@ -1,13 +1,12 @@
 -- One message out of a component, along the couplings of its Coupled: what is parked, and what is put out. Definitions only. Assumes nothing.
-use Rattle.std.specs.Prelude.{ℕ, ◌+◌, ◌≤◌, ◌≡◌, List, ◌++◌, map}
+use Rattle.std.specs.Prelude.{ℕ, ◌+◌, ◌≤◌, ◌≡◌, List, ◌++◌, map, Err, Ok, Result}
+use Rattle.rules.specs.declared.Refusal.{Refusal}
 use Rattle.rules.specs.declared.Refusal.TheVariants.{NoMessageRoom}
 use Rattle.rules.specs.Base.{Outcome, refused, done, ◌>>=◌, at_most}
 use Rattle.rules.specs.Sizes.{most_parked, most_out}
 use Rattle.rules.specs.Table.{Table, Target, id_at, outputs, internals}
 use Rattle.rules.specs.Simulation.{Parked, of_coupled, state_at, as_coupled}
 use Rattle.rules.specs.Step.{Out, out_at, World, becomes}
-use Rattle.memory.specs.declared.Put.{Put}
-use Rattle.memory.specs.declared.Put.TheVariants as put
 use Rattle.memory.specs.Words.{Only}
 use Rattle.memory.specs.View.{outs_in}
 use Rattle.parked_rows.specs.Parking.{with_one}
@@ -33,9 +32,9 @@ pub record Adds-to (n at count : ℕ) (more : List Out) (mem after : List ℕ) :
   pub few : n ≤ most_out
   pub is : at_most most_out NoMessageRoom (outs_in at count mem ++ more) ≡ done (outs_in at n after)
 
-abbrev pub Fills : Put → ℕ → ℕ → List Out → List ℕ → List ℕ → Type 0
-Fills (put.Out n) at count more mem after = Adds-to n at count more mem after
-Fills (put.Refused r) at count more mem after = at_most most_out NoMessageRoom (outs_in at count mem ++ more) ≡ refused r
+abbrev pub Fills : Result ℕ Refusal → ℕ → ℕ → List Out → List ℕ → List ℕ → Type 0
+Fills (Ok n) at count more mem after = Adds-to n at count more mem after
+Fills (Err r) at count more mem after = at_most most_out NoMessageRoom (outs_in at count mem ++ more) ≡ refused r
 
 -- only words of the 256 from `at` on were written
 abbrev pub Beside : ℕ → List ℕ → List ℕ → Type 0

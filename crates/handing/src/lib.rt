@@ -11,9 +11,7 @@ ghost use Rattle.views.specs.World.{Ready, Frame, Does, end_of};
 ghost use Rattle.views.specs.Messages.{Hands};
 ghost use Rattle.handing.specs.Handing.{park_from, outs_from, Fills, Beside};
 
-use memory::{Answer, Put};
 use rules::Refusal;
-use words::Found;
 
 // Parked for each component to which an internal coupling leads from this port of `source`, in order.
 fn park_all(
@@ -23,7 +21,7 @@ fn park_all(
     source: u64,
     port: u64,
     content: u32,
-) -> Answer
+) -> Result<(), Refusal>
     requires { Inside state.now × Ready (table_in state.now) mem.old × (row < length (table_in state.now).rows) × (kind_at (table_in state.now) row ≡ coupled) }
     ensures parks { Does result (park_from (table_in state.now) row source port content) (table_in state.now) mem.old mem.new }
     ensures frame { Frame (table_in state.now) 0 0 mem.old mem.new }
@@ -33,19 +31,19 @@ fn park_all(
     let mut from = 0;
     while from < end {
         match lookup::next_internal(state, from, owner, source, port) {
-            Found::Nothing => return Answer::Done,
-            Found::At(coupling) => {
+            None => return Ok(()),
+            Some(coupling) => {
                 let to = lookup::coupling_target(state, coupling);
                 match parked_rows::park(mem, row, to.id, to.port, content) {
-                    Answer::Refused(refusal) => return Answer::Refused(refusal),
-                    Answer::Done => {
+                    Err(refusal) => return Err(refusal),
+                    Ok(()) => {
                         from = coupling + 1;
                     }
                 }
             }
         }
     }
-    Answer::Done
+    Ok(())
 }
 
 // Put out along each external output coupling of `owner` that matches, in order.
@@ -58,7 +56,7 @@ fn put_all(
     content: u32,
     at: usize,
     count: usize,
-) -> Put
+) -> Result<usize, Refusal>
     requires { Inside state.now × (at + 256 ≤ length mem.old) × (count ≤ 256) }
     ensures puts { Fills result at count (outs_from (table_in state.now) owner source port content) mem.old mem.new }
     ensures beside { Beside at mem.old mem.new }
@@ -68,10 +66,10 @@ fn put_all(
     let mut from = 0;
     while from < end {
         match lookup::next_output(state, from, owner, source, port) {
-            Found::Nothing => return Put::Out(held),
-            Found::At(coupling) => {
+            None => return Ok(held),
+            Some(coupling) => {
                 if held == 256 {
-                    return Put::Refused(Refusal::NoMessageRoom);
+                    return Err(Refusal::NoMessageRoom);
                 }
                 let to = lookup::coupling_target(state, coupling);
                 let word = to.port * 0x1_0000_0000 + content as u64;
@@ -81,7 +79,7 @@ fn put_all(
             }
         }
     }
-    Put::Out(held)
+    Ok(held)
 }
 
 // One message: "first parked along internal couplings, then put out along external output couplings".
@@ -94,7 +92,7 @@ fn hand_one(
     content: u32,
     at: usize,
     count: usize,
-) -> Put
+) -> Result<usize, Refusal>
     requires { Inside state.now × Ready (table_in state.now) mem.old × (row < length (table_in state.now).rows) × (kind_at (table_in state.now) row ≡ coupled) × (end_of (table_in state.now) ≤ at) × (at + 256 ≤ length mem.old) × (count ≤ 256) }
     ensures hands { (services : List Float) → Hands result count at (hand (table_in state.now) services row component (out_at port content)) (table_in state.now) mem.old mem.new }
     ensures frame { Frame (table_in state.now) at (at + 256) mem.old mem.new }
@@ -102,8 +100,8 @@ fn hand_one(
     let owner = lookup::id_of(state, row);
     let source = lookup::id_of(state, component);
     match park_all(state, mem, row, source, port, content) {
-        Answer::Refused(refusal) => return Put::Refused(refusal),
-        Answer::Done => {}
+        Err(refusal) => return Err(refusal),
+        Ok(()) => {}
     }
     put_all(state, mem, owner, source, port, content, at, count)
 }
@@ -119,7 +117,7 @@ pub fn hand_all(
     messages: usize,
     at: usize,
     count: usize,
-) -> Put
+) -> Result<usize, Refusal>
     requires { Inside state.now × Ready (table_in state.now) mem.old × (row < length (table_in state.now).rows) × (kind_at (table_in state.now) row ≡ coupled) × (end_of (table_in state.now) ≤ at) × (at + 256 ≤ from) × (from + 256 ≤ length mem.old) × (messages ≤ 256) × (count ≤ 256) }
     ensures hands { (services : List Float) → Hands result count at (λ x. each (hand (table_in state.now) services row component) (outs_in from messages mem.old) x) (table_in state.now) mem.old mem.new }
     ensures frame { Frame (table_in state.now) at (at + 256) mem.old mem.new }
@@ -131,12 +129,12 @@ pub fn hand_all(
         let port = word / 0x1_0000_0000;
         let content = (word % 0x1_0000_0000) as u32;
         match hand_one(state, mem, row, component, port, content, at, held) {
-            Put::Refused(refusal) => return Put::Refused(refusal),
-            Put::Out(put) => {
+            Err(refusal) => return Err(refusal),
+            Ok(put) => {
                 held = put;
                 next += 1;
             }
         }
     }
-    Put::Out(held)
+    Ok(held)
 }

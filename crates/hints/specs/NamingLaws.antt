@@ -1,5 +1,5 @@
 -- What the private functions of `hints` answer, and the searches that tell what an end names. Assumes nothing.
-use Rattle.std.specs.Prelude.{ℕ, ◌/◌, ◌≡◌, refl, Bool, true, false, ◌&&◌, List, [], ◌∷◌, map, length, eqb, if◌then◌else◌}
+use Rattle.std.specs.Prelude.{ℕ, ◌/◌, ◌≡◌, refl, Bool, true, false, ◌&&◌, List, [], ◌∷◌, map, length, eqb, if◌then◌else◌, None, Some}
 use Rattle.std.proofs.Math.Path.{sym, ap}
 use Rattle.std.proofs.Common.{◌∙◌, arith}
 use Rattle.std.proofs.lemmas.Bool.{false≢true}
@@ -10,16 +10,12 @@ use Rattle.rules.specs.Base.{those, chosen, some_of, from}
 use Rattle.rules.specs.Table.{is_parent, is_parentless}
 use Rattle.rules.specs.Valid.{member}
 use Rattle.rules.specs.Layout.{cell, model_width, coupling_width, parent_in, kind_in}
-use Rattle.words.specs.declared.Found.{Found}
-use Rattle.words.specs.declared.Found.TheVariants.{At, Nothing}
 use Rattle.words.specs.declared.Cell.{Cell}
 use Rattle.words.specs.declared.Key.{Key}
 use Rattle.words.specs.Search.{first_from, matches, next_row}
 use Rattle.words.specs.SearchLaws.{is_found, first-at, first-nothing, first_some, next-row-first}
 use Rattle.table.specs.declared.Kind.{Kind}
 use Rattle.table.specs.declared.Kind.TheVariants.{Coupled}
-use Rattle.table.specs.declared.Parent.{Parent}
-use Rattle.table.specs.declared.Parent.TheVariants.{Of, Nobody}
 use Rattle.table.specs.Readers.{row_of, id_in, parent_of, kind_of}
 use Rattle.table.specs.Rows.{row-cell}
 use Rattle.table.specs.Judging.{option_of, input_in, output_in, inner_in}
@@ -31,18 +27,18 @@ use Rattle.hints.specs.Naming.{of_port, port_from, ports_of, couplings_in, ports
 
 -- ---- the row that is named
 -- the parent is the one that is asked for
-abbrev pub is_parent_of : Parent → Option ℕ → Bool
-is_parent_of Nobody parent = is_parentless parent
-is_parent_of (Of owner) parent = is_parent owner parent
+abbrev pub is_parent_of : Option ℕ → Option ℕ → Bool
+is_parent_of None parent = is_parentless parent
+is_parent_of (Some owner) parent = is_parent owner parent
 
-abbrev pub is_wanted : Parent → Parent → Bool
+abbrev pub is_wanted : Option ℕ → Option ℕ → Bool
 is_wanted wanted parent = is_parent_of wanted (option_of parent)
 
-abbrev pub is_named : Parent → List ℕ → ℕ → ℕ → Bool
+abbrev pub is_named : Option ℕ → List ℕ → ℕ → ℕ → Bool
 is_named wanted models id k = eqb (id_in models k) id && is_parent_of wanted (parent_in (row_of model_width models k))
 
 -- a parent that was read
-pub parent-read : {p : Parent} (o : Option ℕ) → p ≡ parent_of o → option_of p ≡ o
+pub parent-read : {p : Option ℕ} (o : Option ℕ) → p ≡ parent_of o → option_of p ≡ o
 parent-read none e = ap option_of e
 parent-read (some id) e = ap option_of e
 
@@ -62,19 +58,19 @@ and_first : (a b : Bool) → a && b ≡ true → a ≡ true
 and_first true b e = refl
 and_first false b e = absurd (false≢true e)
 
-module _ (wanted : Parent) (models couplings : List ℕ) (id port : ℕ) (side : Side) where
+module _ (wanted : Option ℕ) (models couplings : List ℕ) (id port : ℕ) (side : Side) where
   abbrev rows : ℕ
   rows = length models / model_width
 
   named-are : those (λ k. eqb (id_in models k) id) (rows_where (is_parent_of wanted) models) ≡ those (is_named wanted models id) (from 0 rows)
   named-are = those-both (λ k. eqb (id_in models k) id) (λ k. is_parent_of wanted (parent_in (row_of model_width models k))) (from 0 rows)
 
-  pub end-nobody : first_from (is_named wanted models id) 0 rows ≡ Nothing → known.NoModel ≡ end_in (is_parent_of wanted) models couplings id port side
+  pub end-nobody : first_from (is_named wanted models id) 0 rows ≡ None → known.NoModel ≡ end_in (is_parent_of wanted) models couplings id port side
   unfolding end_in
   end-nobody e = sym (ap (known_by (ports_in models couplings side) port) (named-are ∙ first-nothing (is_named wanted models id) 0 rows e))
 
   -- the row that is found has the id, so its ports are those of a model with it
-  pub end-at : (k : ℕ) → first_from (is_named wanted models id) 0 rows ≡ At k → {kind : Kind} → kind ≡ kind_of (kind_in (row_of model_width models k)) → {b : Bool} → b ≡ member port (ports_of side (couplings_in couplings) id kind)
+  pub end-at : (k : ℕ) → first_from (is_named wanted models id) 0 rows ≡ Some k → {kind : Kind} → kind ≡ kind_of (kind_in (row_of model_width models k)) → {b : Bool} → b ≡ member port (ports_of side (couplings_in couplings) id kind)
       → of_port b ≡ end_in (is_parent_of wanted) models couplings id port side
   unfolding end_in
   end-at k e {kind} g {b} h =
@@ -159,7 +155,7 @@ module _ (couplings : List ℕ) (owner port : ℕ) where
   ports-are Out = refl
 
   -- a search for the key finds a coupling exactly if the Coupled has the port
-  pub port-found : (side : Side) {f : Found} → f ≡ next_row (port_key side owner port) coupling_width 0 (length couplings / coupling_width) couplings → is_found f ≡ member port (ports_of side (couplings_in couplings) owner Coupled)
+  pub port-found : (side : Side) {f : Option ℕ} → f ≡ next_row (port_key side owner port) coupling_width 0 (length couplings / coupling_width) couplings → is_found f ≡ member port (ports_of side (couplings_in couplings) owner Coupled)
   port-found side e =
       let n : ℕ = length couplings / coupling_width in
       ap is_found (e ∙ searched side) ∙ first_some (matches (port_key side owner port) coupling_width couplings) 0 n

@@ -10,8 +10,8 @@ ghost use Rattle.hints.specs.declared.Side.TheVariants.{In, Out};
 ghost use Rattle.hints.specs.Naming.{ports_of, couplings_in, end_in, root_end_in, component_end_in};
 ghost use Rattle.hints.specs.NamingLaws.{is_named, is_parent_of, is_wanted, port_key};
 
-use table::{Kind, Parent};
-use words::{Cell, Found, Key};
+use table::Kind;
+use words::{Cell, Key};
 
 // A port that takes messages, or one that puts them out.
 #[derive(Clone, Copy)]
@@ -29,23 +29,23 @@ pub enum Known {
 }
 
 // Whether a row's parent is the one that is asked for, or it has none where none is.
-fn is_wanted(parent: Parent, wanted: Parent) -> bool
+fn is_wanted(parent: Option<u64>, wanted: Option<u64>) -> bool
     ensures { result ≡ is_wanted wanted parent }
 {
     match wanted {
-        Parent::Nobody => match parent {
-            Parent::Nobody => true,
-            Parent::Of(_) => false,
+        None => match parent {
+            None => true,
+            Some(_) => false,
         },
-        Parent::Of(owner) => match parent {
-            Parent::Nobody => false,
-            Parent::Of(id) => id == owner,
+        Some(owner) => match parent {
+            None => false,
+            Some(id) => id == owner,
         },
     }
 }
 
 // Whether a row has the id, and the parent that is asked for.
-fn is_named(models: &[u64], row: usize, id: u64, wanted: Parent) -> bool
+fn is_named(models: &[u64], row: usize, id: u64, wanted: Option<u64>) -> bool
     ensures { result ≡ is_named wanted models.now id row }
 {
     if table::id_at(models, row) != id {
@@ -55,18 +55,18 @@ fn is_named(models: &[u64], row: usize, id: u64, wanted: Parent) -> bool
 }
 
 // The first row that has the id, and the parent that is asked for.
-fn row_named(models: &[u64], id: u64, wanted: Parent) -> Found
+fn row_named(models: &[u64], id: u64, wanted: Option<u64>) -> Option<usize>
     ensures { result ≡ first_from (is_named wanted models.now id) 0 (length models.now / 10) }
 {
     let end = models.len() / 10;
     let mut row: usize = 0;
     while row < end {
         if is_named(models, row, id, wanted) {
-            return Found::At(row);
+            return Some(row);
         }
         row += 1;
     }
-    Found::Nothing
+    None
 }
 
 // Whether the port is one of three.
@@ -112,8 +112,8 @@ fn coupled_has(couplings: &[u64], owner: u64, port: u64, side: Side) -> bool
 {
     let key = port_key(owner, port, side);
     match words::next_row(couplings, 6, 0, couplings.len() / 6, key) {
-        Found::At(_) => true,
-        Found::Nothing => false,
+        Some(_) => true,
+        None => false,
     }
 }
 
@@ -156,7 +156,7 @@ fn has_port(couplings: &[u64], id: u64, kind: Kind, port: u64, side: Side) -> bo
 fn end_of(
     models: &[u64],
     couplings: &[u64],
-    wanted: Parent,
+    wanted: Option<u64>,
     id: u64,
     port: u64,
     side: Side,
@@ -164,8 +164,8 @@ fn end_of(
     ensures { result ≡ end_in (is_parent_of wanted) models.now couplings.now id port side }
 {
     match row_named(models, id, wanted) {
-        Found::Nothing => Known::NoModel,
-        Found::At(row) => if has_port(couplings, id, table::kind_at(models, row), port, side) {
+        None => Known::NoModel,
+        Some(row) => if has_port(couplings, id, table::kind_at(models, row), port, side) {
             Known::Known
         } else {
             Known::NoPort
@@ -177,7 +177,7 @@ fn end_of(
 pub fn root_end(models: &[u64], couplings: &[u64], id: u64, port: u64, side: Side) -> Known
     ensures { result ≡ root_end_in models.now couplings.now id port side }
 {
-    end_of(models, couplings, Parent::Nobody, id, port, side)
+    end_of(models, couplings, None, id, port, side)
 }
 
 // What an end of a coupling of `owner` names: it is looked for among the components of that Coupled.
@@ -191,5 +191,5 @@ pub fn component_end(
 ) -> Known
     ensures { result ≡ component_end_in models.now couplings.now owner id port side }
 {
-    end_of(models, couplings, Parent::Of(owner), id, port, side)
+    end_of(models, couplings, Some(owner), id, port, side)
 }

@@ -1,5 +1,5 @@
 -- What 20 asks of a lent state, part by part, as the code goes over it. Definitions only. Assumes nothing.
-use Rattle.std.specs.Prelude.{ℕ, ◌+◌, Bool, List, [], ◌∷◌, map, length, leb, eqb, if◌then◌else◌}
+use Rattle.std.specs.Prelude.{ℕ, ◌+◌, Bool, List, [], ◌∷◌, map, length, leb, eqb, if◌then◌else◌, None, Option, Some}
 use Rattle.std.specs.Float.{binary64}
 use Rattle.std.specs.Float.Ieee.{of_bits}
 use Rattle.times.specs.Time.{is_time}
@@ -17,8 +17,6 @@ use Rattle.lookup.specs.Inside.{count_in, posted_in}
 use Rattle.views.specs.World.{begin_of, end_of}
 use Rattle.stepping.specs.Simulating.{clock_in, active_in}
 use Rattle.storing.specs.State.{state_words}
-use Rattle.holding.specs.declared.Next.{Next}
-use Rattle.holding.specs.declared.Next.TheVariants as next
 
 -- ---- a queue of jobs in 64 places
 unfoldable pub queue_fits : ℕ → List ℕ → Bool
@@ -38,10 +36,10 @@ row_fits k phase timer held own = hold (hold (word_rules k phase timer held own)
 unfoldable pub row_stands : Kind → ℕ → List ℕ → ℕ → Bool
 row_stands k begin mem i = hold (eqb (begin_in mem i) begin ∷ row_fits k (phase_in mem i) (timer_in mem i) (held_in mem i) (own_in begin (width_of k) mem) ∷ [])
 
-abbrev pub next_if : Bool → ℕ → Next
-next_if fits end = if fits then next.At end else next.Bad
+abbrev pub next_if : Bool → ℕ → Option ℕ
+next_if fits end = if fits then Some end else None
 
-unfoldable pub row_end : Kind → ℕ → List ℕ → ℕ → Next
+unfoldable pub row_end : Kind → ℕ → List ℕ → ℕ → Option ℕ
 row_end k begin mem i = next_if (row_stands k begin mem i) (begin + width_of k)
 
 -- ---- all rows
@@ -51,7 +49,7 @@ rows_from t mem i n = every (λ j. row_stands (kind_at t j) (begin_of t j) mem j
 abbrev pub rows_stand : Table → List ℕ → Bool
 rows_stand t mem = rows_from t mem 0 (length t.rows)
 
-unfoldable pub rows_end : Table → List ℕ → Next
+unfoldable pub rows_end : Table → List ℕ → Option ℕ
 rows_end t mem = next_if (rows_stand t mem) (end_of t)
 
 -- ---- the changing part

@@ -1,5 +1,5 @@
 -- The laws of the whole: the rows one after the other, the active messages, the table; and that all of these are what 20 asks of a lent state. Assumes nothing.
-use Rattle.std.specs.Prelude.{ℕ, suc, ◌+◌, ◌-◌, ◌*◌, ◌≤◌, ◌<◌, ◌^◌, ◌≡◌, Bool, true, false, List, map, length, get_or, take, drop, leb}
+use Rattle.std.specs.Prelude.{ℕ, suc, ◌+◌, ◌-◌, ◌*◌, ◌≤◌, ◌<◌, ◌^◌, ◌≡◌, Bool, true, false, List, map, length, get_or, take, drop, leb, None, Option, Some}
 use Rattle.std.proofs.Math.Path.{refl, sym, ap, subst}
 use Rattle.std.proofs.Common.{◌∙◌, length-drop, take_all, get_or-drop}
 use native.Mathlib.Omega.{arith}
@@ -38,14 +38,12 @@ use Rattle.marks.specs.MarkingLaws.{every-from}
 use Rattle.copying.specs.EndLaws as laws
 use Rattle.storing.specs.StoredLaws.{widths-most}
 use Rattle.storing.specs.State.{state_words, row_rules, rows_fit, is_stored}
-use Rattle.holding.specs.declared.Next.{Next}
-use Rattle.holding.specs.declared.Next.TheVariants as next
 use Rattle.holding.specs.Fitting.{state_by, row_fits, row_stands, next_if, row_end, rows_from, rows_stand, rows_end, tail_fits, table_fits}
 use Rattle.holding.specs.RowLaws.{sweep-over, sweep-stops, sweep-on}
 
 -- ---- one row
 module _ (k : Table.Kind) (begin : ℕ) (mem : List ℕ) (i : ℕ) where
-  pub row_moved : (begin_in mem i ≡ begin → ⊥) → row_end k begin mem i ≡ next.Bad
+  pub row_moved : (begin_in mem i ≡ begin → ⊥) → row_end k begin mem i ≡ None
   unfolding row_end row_stands
   row_moved n = rw (is_false (same (begin_in mem i) begin) n) refl
 
@@ -56,7 +54,7 @@ module _ (k : Table.Kind) (begin : ℕ) (mem : List ℕ) (i : ℕ) where
       (ap (λ (b : Bool). next_if b (begin + width_of k)) (one (row_fits k (phase_in mem i) (timer_in mem i) (held_in mem i) (own_in begin (width_of k) mem)))))
 
 -- of a row of a known kind, by what its head and its own words are
-pub row-says : (k known : Table.Kind) (begin : ℕ) (mem : List ℕ) (i phase timer held end : ℕ) (fits : Bool) (r : Next)
+pub row-says : (k known : Table.Kind) (begin : ℕ) (mem : List ℕ) (i phase timer held end : ℕ) (fits : Bool) (r : Option ℕ)
     → k ≡ known → begin_in mem i ≡ begin → phase ≡ phase_in mem i → timer ≡ timer_in mem i → held ≡ held_in mem i → end ≡ begin + width_of known
     → fits ≡ row_fits known phase timer held (take (end - begin) (drop begin mem)) → r ≡ next_if fits end → r ≡ row_end k begin mem i
 row-says k known begin mem i phase timer held end fits r is b p t h e f g =
@@ -68,11 +66,11 @@ row-says k known begin mem i phase timer held end fits r is b p t h e f g =
 widths-next : (rows : List Row) (i : ℕ) → i < length rows → widths_of rows (i + 1) ≡ widths_of rows i + width_of (get_or rows i no_row).kind
 widths-next rows i l = let e : i + 1 ≡ suc i = omega arith in ap (widths_of rows) e ∙ laws.widths-next rows i l
 
-next-bad : (b : Bool) (end : ℕ) → next_if b end ≡ next.Bad → b ≡ false
+next-bad : (b : Bool) (end : ℕ) → next_if b end ≡ None → b ≡ false
 next-bad true end e = let z : ◌≡◌ {A = ℕ} 0 1 = cc in absurd (omega arith)
 next-bad false end e = refl
 
-next-at : (b : Bool) (end at : ℕ) → next_if b end ≡ next.At at → (b ≡ true) × (at ≡ end)
+next-at : (b : Bool) (end at : ℕ) → next_if b end ≡ Some at → (b ≡ true) × (at ≡ end)
 next-at true end at e = (refl, cc)
 next-at false end at e = let z : ◌≡◌ {A = ℕ} 0 1 = cc in absurd (omega arith)
 
@@ -96,11 +94,11 @@ module _ (t : Table) (mem : List ℕ) where
     unfolding row_end
     here = λ j. next_if (row_stands (kind_at t i) (at j) mem i) (at j + width_of (kind_at t i))
 
-    pub rows-stop : row_end (kind_at t i) begin mem i ≡ next.Bad → rows_from t mem i (n - i) ≡ false
+    pub rows-stop : row_end (kind_at t i) begin mem i ≡ None → rows_from t mem i (n - i) ≡ false
     unfolding rows_from
     rows-stop e = sweep-stops (λ k n. every stands (from k n)) stands (λ _. refl) (λ _ _. refl) i n l (next-bad (stands i) (begin_of t i + width_of (kind_at t i)) (sym here ∙ e))
 
-    pub rows_on : (end : ℕ) → row_end (kind_at t i) begin mem i ≡ next.At end → (end ≡ begin_of t (i + 1)) × (rows_from t mem i (n - i) ≡ rows_from t mem (i + 1) (n - (i + 1)))
+    pub rows_on : (end : ℕ) → row_end (kind_at t i) begin mem i ≡ Some end → (end ≡ begin_of t (i + 1)) × (rows_from t mem i (n - i) ≡ rows_from t mem (i + 1) (n - (i + 1)))
     unfolding rows_from
     rows_on end e =
         let both = next-at (stands i) (begin_of t i + width_of (kind_at t i)) end (sym here ∙ e) in
@@ -108,19 +106,19 @@ module _ (t : Table) (mem : List ℕ) where
         let b = both.1 in
         (omega arith, sweep-on (λ k n. every stands (from k n)) stands (λ _. refl) (λ _ _. refl) i n l both.0)
 
-  pub rows-bad : rows_stand t mem ≡ false → next.Bad ≡ rows_end t mem
+  pub rows-bad : rows_stand t mem ≡ false → None ≡ rows_end t mem
   unfolding rows_end
   rows-bad e = sym (ap (λ (b : Bool). next_if b (end_of t)) e)
 
-  pub rows-good : (begin : ℕ) → begin ≡ end_of t → rows_stand t mem ≡ true → next.At begin ≡ rows_end t mem
+  pub rows-good : (begin : ℕ) → begin ≡ end_of t → rows_stand t mem ≡ true → Some begin ≡ rows_end t mem
   unfolding rows_end
-  rows-good begin b e = ap next.At b ∙ sym (ap (λ (b : Bool). next_if b (end_of t)) e)
+  rows-good begin b e = ap Some b ∙ sym (ap (λ (b : Bool). next_if b (end_of t)) e)
 
-  rows-say : rows_end t mem ≡ next.Bad → rows_stand t mem ≡ false
+  rows-say : rows_end t mem ≡ None → rows_stand t mem ≡ false
   unfolding rows_end
   rows-say e = next-bad (rows_stand t mem) (end_of t) e
 
-  pub rows_tell : (end : ℕ) → rows_end t mem ≡ next.At end → (rows_stand t mem ≡ true) × (end ≡ end_of t)
+  pub rows_tell : (end : ℕ) → rows_end t mem ≡ Some end → (rows_stand t mem ≡ true) × (end ≡ end_of t)
   unfolding rows_end
   rows_tell end e = next-at (rows_stand t mem) (end_of t) end e
 
@@ -138,10 +136,10 @@ module _ (t : Table) (mem : List ℕ) where
   pub tail-late : is_time (clock_in mem) ≡ false → false ≡ tail_fits t mem
   tail-late e = sym (is_false tail-decides (λ h. subst T e h.1.0))
 
-  pub tail-bad : rows_end t mem ≡ next.Bad → false ≡ tail_fits t mem
+  pub tail-bad : rows_end t mem ≡ None → false ≡ tail_fits t mem
   tail-bad e = sym (is_false tail-decides (λ h. subst T (rows-say e) h.1.1.0))
 
-  pub tail-rest : word_at mem 0 ≤ most_active → is_time (clock_in mem) ≡ true → (end : ℕ) → rows_end t mem ≡ next.At end → every (λ m. hold (message_rules m)) (messages_in end (word_at mem 0) mem) ≡ tail_fits t mem
+  pub tail-rest : word_at mem 0 ≤ most_active → is_time (clock_in mem) ≡ true → (end : ℕ) → rows_end t mem ≡ Some end → every (λ m. hold (message_rules m)) (messages_in end (word_at mem 0) mem) ≡ tail_fits t mem
   tail-rest l c end e =
       let told = rows_tell end e in
       ap (λ (p : ℕ). every (λ m. hold (message_rules m)) (messages_in p (word_at mem 0) mem)) told.1

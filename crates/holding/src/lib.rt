@@ -23,13 +23,6 @@ ghost use Rattle.holding.specs.Fitting.{queue_fits, row_fits, next_if, row_end, 
 
 use table::Verdict;
 
-// Where the next row's own words begin, or that a row breaks a rule.
-#[derive(Clone, Copy)]
-enum Next {
-    At(usize),
-    Bad,
-}
-
 // Whether the bits are a time's.
 fn is_time(bits: u64) -> bool
     ensures { result ≡ is_time (of_bits binary64 bits) }
@@ -184,13 +177,13 @@ fn coupled_fits(phase: u64, timer: u64, held: u64, own: &[u64]) -> bool
     rest_clear(own, held as usize)
 }
 
-fn next_if(fits: bool, end: usize) -> Next
+fn next_if(fits: bool, end: usize) -> Option<usize>
     ensures { result ≡ next_if fits end }
 {
     if fits {
-        return Next::At(end);
+        return Some(end);
     }
-    Next::Bad
+    None
 }
 
 // Intake has judged each row, so its kind's number says the kind, and no other word of it need be looked at again.
@@ -215,13 +208,13 @@ fn capacity_of(state: &[u64], row: usize) -> u64
 }
 
 // A row whose own words are to begin at `begin`: where they end, if it fits.
-fn row_end(state: &[u64], mem: &[u64], row: usize, begin: usize) -> Next
+fn row_end(state: &[u64], mem: &[u64], row: usize, begin: usize) -> Option<usize>
     requires { Inside state.now × (row < length (table_in state.now).rows) × (head_at row + 4 ≤ length mem.now) × (begin + 192 ≤ length mem.now) }
     ensures { result ≡ row_end (kind_at (table_in state.now) row) begin mem.now row }
 {
     let said = memory::begin_at(mem, row);
     if said != begin {
-        return Next::Bad;
+        return None;
     }
     let phase = memory::phase_at(mem, row);
     let head = row * 4 + 3;
@@ -247,7 +240,7 @@ fn row_end(state: &[u64], mem: &[u64], row: usize, begin: usize) -> Next
 }
 
 // The rows in order, each beginning where the one before it ends.
-fn rows_end(state: &[u64], mem: &[u64]) -> Next
+fn rows_end(state: &[u64], mem: &[u64]) -> Option<usize>
     requires { Inside state.now × (head_at (length (table_in state.now).rows) + length (table_in state.now).rows * 192 ≤ length mem.now) }
     ensures { result ≡ rows_end (table_in state.now) mem.now }
 {
@@ -256,12 +249,12 @@ fn rows_end(state: &[u64], mem: &[u64]) -> Next
     let mut row = 0;
     while row < rows {
         match row_end(state, mem, row, begin) {
-            Next::At(end) => begin = end,
-            Next::Bad => return Next::Bad,
+            Some(end) => begin = end,
+            None => return None,
         }
         row += 1;
     }
-    Next::At(begin)
+    Some(begin)
 }
 
 // The message k of those from `at` on.
@@ -314,8 +307,8 @@ fn tail_fits(state: &[u64], mem: &[u64]) -> bool
         return false;
     }
     match rows_end(state, mem) {
-        Next::At(end) => messages_fit(mem, end, mem[0] as usize),
-        Next::Bad => false,
+        Some(end) => messages_fit(mem, end, mem[0] as usize),
+        None => false,
     }
 }
 

@@ -1,5 +1,6 @@
 -- The numbers and words of an answer are those of the rules' outcome that it tells. Assumes nothing.
-use Rattle.std.specs.Prelude.{ℕ, ◌≡◌, refl, List, Float}
+use Rattle.std.specs.Prelude.{ℕ, ◌≡◌, refl, List, Float, Err, Ok, Result}
+use Rattle.rules.specs.declared.Refusal.{Refusal}
 use Rattle.std.proofs.Common.{sym, ap, ◌∙◌}
 use Rattle.std.proofs.Math.Option.{none, some}
 use Rattle.std.specs.Float.{binary64}
@@ -22,10 +23,6 @@ use Rattle.lent_runs.specs.Reported.{Reported}
 use Rattle.asking.specs.declared.Status.{Status}
 use Rattle.asking.specs.declared.Status.TheVariants as status
 use Rattle.asking.specs.Told.{status_answered}
-use Rattle.simulation.specs.declared.Listing.{Listing}
-use Rattle.simulation.specs.declared.Listing.TheVariants as listing
-use Rattle.simulation.specs.declared.Clock.{Clock}
-use Rattle.simulation.specs.declared.Clock.TheVariants as clock
 use Rattle.simulation.specs.Answers.{count_told, time_told}
 use Rattle.trace_blocks.specs.Blocks.{six}
 use Rattle.trace_files.specs.declared.Written.{Written}
@@ -122,13 +119,13 @@ status-told report o told known e f =
     (ap status_number (sym f ∙ e) ∙ status-number o, ap (words_said report) (sym f ∙ e) ∙ status-words report o)
 
 -- ---- how many messages
-abbrev listing_number : Listing → ℕ
-listing_number (listing.Count n) = 0
-listing_number (listing.Refused r) = number r
+abbrev listing_number : Result ℕ Refusal → ℕ
+listing_number (Ok n) = 0
+listing_number (Err r) = number r
 
-abbrev count_said : ℕ → Listing → ℕ
-count_said count (listing.Count n) = n
-count_said count (listing.Refused r) = count
+abbrev count_said : ℕ → Result ℕ Refusal → ℕ
+count_said count (Ok n) = n
+count_said count (Err r) = count
 
 listing-number : (o : Outcome (List Message)) → listing_number (count_told o) ≡ number_of o
 listing-number (refused r) = refl
@@ -138,17 +135,17 @@ listing-count : (count : ℕ) (o : Outcome (List Message)) → count_said count 
 listing-count count (refused r) = refl
 listing-count count (done messages) = refl
 
-pub listing-told : (count : ℕ) (o : Outcome (List Message)) (told known : Listing) → told ≡ count_told o → told ≡ known → (listing_number known ≡ number_of o) × (count_said count known ≡ count_after count o)
+pub listing-told : (count : ℕ) (o : Outcome (List Message)) (told known : Result ℕ Refusal) → told ≡ count_told o → told ≡ known → (listing_number known ≡ number_of o) × (count_said count known ≡ count_after count o)
 listing-told count o told known e f = (ap listing_number (sym f ∙ e) ∙ listing-number o, ap (count_said count) (sym f ∙ e) ∙ listing-count count o)
 
 -- ---- the clock
-abbrev clock_number : Clock → ℕ
-clock_number (clock.Time x) = 0
-clock_number (clock.Refused r) = number r
+abbrev clock_number : Result Float Refusal → ℕ
+clock_number (Ok x) = 0
+clock_number (Err r) = number r
 
-abbrev time_said : Float → Clock → Float
-time_said time (clock.Time x) = x
-time_said time (clock.Refused r) = time
+abbrev time_said : Float → Result Float Refusal → Float
+time_said time (Ok x) = x
+time_said time (Err r) = time
 
 clock-number : (o : Outcome Float) → clock_number (time_told o) ≡ number_of o
 clock-number (refused r) = refl
@@ -158,7 +155,7 @@ clock-time : (time : Float) (o : Outcome Float) → time_said time (time_told o)
 clock-time time (refused r) = refl
 clock-time time (done x) = refl
 
-pub clock-told : (time : Float) (o : Outcome Float) (told known : Clock) → told ≡ time_told o → told ≡ known → (clock_number known ≡ number_of o) × (time_said time known ≡ time_after time o)
+pub clock-told : (time : Float) (o : Outcome Float) (told known : Result Float Refusal) → told ≡ time_told o → told ≡ known → (clock_number known ≡ number_of o) × (time_said time known ≡ time_after time o)
 clock-told time o told known e f = (ap clock_number (sym f ∙ e) ∙ clock-number o, ap (time_said time) (sym f ∙ e) ∙ clock-time time o)
 
 -- ---- a trace written: the number, and how many bytes

@@ -1,5 +1,6 @@
 -- What the C calls return and write: 01's numbers for each answer. Definitions only. Assumes nothing.
-use Rattle.std.specs.Prelude.{ℕ, ◌/◌, List, length, set, Float}
+use Rattle.std.specs.Prelude.{ℕ, ◌/◌, List, length, set, Float, Err, Ok, Result, tt, ⊤}
+use Rattle.rules.specs.declared.Refusal.{Refusal}
 use Rattle.std.proofs.Math.Option.{none, some}
 use Rattle.std.specs.Float.{binary64}
 use Rattle.std.specs.Float.Ieee.{to_bits}
@@ -8,8 +9,6 @@ use Rattle.rules.specs.Names.{number}
 use Rattle.rules.specs.Base.{Outcome, refused, done}
 use Rattle.rules.specs.Intake.{Verdict, too_large, bad_row, bad_connector, bad_coupling, passed}
 use Rattle.rules.specs.Calls.{End, Done, Reached, Spent, Refused, Ran, Status, OfProcessor, OfBatcher, Mean, ParkedCount}
-use Rattle.memory.specs.declared.Answer.{Answer}
-use Rattle.memory.specs.declared.Answer.TheVariants as answer
 use Rattle.memory.specs.View.{working_number, batching_number}
 use Rattle.trace_files.specs.Files.{Reading, read, bad_block, no_room}
 
@@ -18,9 +17,9 @@ abbrev pub number_of : {A : Type 0} → Outcome A → ℕ
 number_of (refused r) = number r
 number_of (done a) = 0
 
-abbrev pub answer_number : Answer → ℕ
-answer_number answer.Done = 0
-answer_number (answer.Refused r) = number r
+abbrev pub answer_number : Result ⊤ Refusal → ℕ
+answer_number (Ok tt) = 0
+answer_number (Err r) = number r
 
 abbrev pub end_number : End → ℕ
 end_number Done = 0

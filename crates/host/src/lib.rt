@@ -16,19 +16,17 @@ ghost use Rattle.host.specs.Numbers.{answer_number, number_of, end_number, end_w
 
 use asking::Status;
 use engine::{End, Report};
-use memory::Answer;
 use rules::{BatcherPhase, Message, ProcessorPhase};
-use simulation::{Clock, Listing};
 use table::Verdict;
 use trace_files::{Read, Written};
 
 // 0, or the refusal's number.
-fn answer_number(answer: Answer) -> u32
+fn answer_number(answer: Result<(), Refusal>) -> u32
     ensures { result ≡ answer_number answer }
 {
     match answer {
-        Answer::Done => 0,
-        Answer::Refused(refusal) => rules::number(refusal),
+        Ok(()) => 0,
+        Err(refusal) => rules::number(refusal),
     }
 }
 
@@ -269,11 +267,11 @@ pub fn jt_get_messages(state: &[u64], rows: &mut [u64], count: &mut u64) -> u32
     ensures tells { count.new ≡ count_after count.old (call_in (Calls.get_messages (room_in rows.old)) state.now) }
 {
     match simulation::get_messages(state, rows) {
-        Listing::Count(n) => {
+        Ok(n) => {
             *count = n as u64;
             0
         }
-        Listing::Refused(refusal) => rules::number(refusal),
+        Err(refusal) => rules::number(refusal),
     }
 }
 
@@ -283,11 +281,11 @@ pub fn jt_get_global_time(state: &[u64], time: &mut f64) -> u32
     ensures tells { time.new ≡ time_after time.old (call_in Calls.get_global_time state.now) }
 {
     match simulation::get_global_time(state) {
-        Clock::Time(clock) => {
+        Ok(clock) => {
             *time = clock;
             0
         }
-        Clock::Refused(refusal) => rules::number(refusal),
+        Err(refusal) => rules::number(refusal),
     }
 }
 

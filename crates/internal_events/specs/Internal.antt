@@ -1,5 +1,5 @@
 -- A Coupled's internal event in place, part by part: unparked, emptied, a turn of each component. Assumes nothing.
-use Rattle.std.specs.Prelude.{ℕ, zero, suc, ◌+◌, ◌≤◌, ◌<◌, ◌≡◌, true, false, length, set, T, Float}
+use Rattle.std.specs.Prelude.{ℕ, zero, suc, ◌+◌, ◌≤◌, ◌<◌, ◌≡◌, true, false, length, set, T, Float, Err, Ok, Result}
 use Rattle.std.proofs.Common.{sym, subst, ◌∙◌, inl, inr, arith}
 use Rattle.std.proofs.Math.Path.{ap}
 use mathlib.Core.List.{List, [], ◌∷◌, ◌++◌, map}
@@ -13,8 +13,6 @@ use Rattle.rules.specs.Sizes.{is_word}
 use Rattle.rules.specs.Valid.{state_fits}
 use Rattle.rules.proofs.Least.{Fitted}
 use Rattle.rules.proofs.Worlds.{fitted-set}
-use Rattle.memory.specs.declared.Put.{Put}
-use Rattle.memory.specs.declared.Put.TheVariants as put
 use Rattle.memory.specs.Words.{place_in, begin_in, width_of, Own}
 use Rattle.memory.specs.View.{out_of, outs_in, parked_in, state_in, WordsFit}
 use Rattle.memory.specs.Places.{own-alike}
@@ -37,16 +35,16 @@ module _ (t : Table) (services : List Float) (depth : ℕ) (clock : Float) (i j 
     pub turn-stops : (r : Refusal) → ((log : List Happening) → internal t services depth clock j (world_in t mem log) ≡ refused r) → (log : List Happening) → inside-turn (world_in t mem log, outs_in at count mem) ≡ refused r
     turn-stops r stops log = rw (e, stops log)
 
-    pub turn-goes : (from n : ℕ) (mid after : List ℕ) (r : Put) → Puts n from (internal t services depth clock j) t mem mid → outs_in at count mid ≡ outs_in at count mem
+    pub turn-goes : (from n : ℕ) (mid after : List ℕ) (r : Result ℕ Refusal) → Puts n from (internal t services depth clock j) t mem mid → outs_in at count mid ≡ outs_in at count mem
         → Hands r count at (λ x. each (hand t services i j) (outs_in from n mid) x) t mid after → Hands r count at inside-turn t mem after
     turn-goes from n mid after r puts kept hands = go r hands
       where
         onto : (log : List Happening) → inside-turn (world_in t mem log, outs_in at count mem) ≡ each (hand t services i j) (outs_in from n mid) (world_in t mid (puts.more log), outs_in at count mid)
         onto log = rw (e, puts.is log, kept)
 
-        go : (r : Put) → Hands r count at (λ x. each (hand t services i j) (outs_in from n mid) x) t mid after → Hands r count at inside-turn t mem after
-        go (put.Out m) h = record { ready = h.ready; few = h.few; more = λ log. h.more (puts.more log); is = λ log. onto log ∙ h.is (puts.more log) }
-        go (put.Refused q) h = λ log. onto log ∙ h (puts.more log)
+        go : (r : Result ℕ Refusal) → Hands r count at (λ x. each (hand t services i j) (outs_in from n mid) x) t mid after → Hands r count at inside-turn t mem after
+        go (Ok m) h = record { ready = h.ready; few = h.few; more = λ log. h.more (puts.more log); is = λ log. onto log ∙ h.is (puts.more log) }
+        go (Err q) h = λ log. onto log ∙ h (puts.more log)
 
 -- the messages put out so far stand below what the component's event writes
 pub outs-kept : (t : Table) (lo hi at count : ℕ) (mem mid : List ℕ) → end_of t ≤ at → at + count ≤ lo → Frame t lo hi mem mid → outs_in at count mid ≡ outs_in at count mem
@@ -102,7 +100,7 @@ module _ (t : Table) (services : List Float) (depth : ℕ) (clock : Float) (i : 
   pub unpark-stops : (r : Refusal) → ((log : List Happening) → unpark t services ext i (parked_in (begin_of t i) mem i) (world_in t mem log) ≡ refused r) → (log : List Happening) → internal t services (suc depth) clock i (world_in t mem log) ≡ refused r
   unpark-stops r stops log = parts-of log ∙ ap (λ (o : Outcome World). o >>= rest) (stops log)
 
-  pub coupled-gives : (at : ℕ) (mid emptied after : List ℕ) (r : Put) → Moves (unpark t services ext i (parked_in (begin_of t i) mem i)) t mem mid
+  pub coupled-gives : (at : ℕ) (mid emptied after : List ℕ) (r : Result ℕ Refusal) → Moves (unpark t services ext i (parked_in (begin_of t i) mem i)) t mem mid
       → ((log : List Happening) → world_in t emptied log ≡ becomes i (of_coupled []) (world_in t mid log))
       → Hands r 0 at (λ x. each (turn t services depth int i) (components t (id_at t i)) x) t emptied after
       → Gives r at (internal t services (suc depth) clock i) t mem after
@@ -116,14 +114,14 @@ module _ (t : Table) (services : List Float) (depth : ℕ) (clock : Float) (i : 
           parts-of log ∙ ap (λ (o : Outcome World). o >>= rest) (moves.is log)
           ∙ ap (λ (w : World). each (turn t services depth int i) (components t (id_at t i)) (w, []) >>= last) (sym (world (moves.more log)))
 
-      go : (r : Put) → Hands r 0 at (λ x. each (turn t services depth int i) (components t (id_at t i)) x) t emptied after → Gives r at (internal t services (suc depth) clock i) t mem after
-      go (put.Out n) h = record {
+      go : (r : Result ℕ Refusal) → Hands r 0 at (λ x. each (turn t services depth int i) (components t (id_at t i)) x) t emptied after → Gives r at (internal t services (suc depth) clock i) t mem after
+      go (Ok n) h = record {
         ready = h.ready;
         few = h.few;
         more = λ log. h.more (moves.more log) ++ went clock i (outs_in at n after) ∷ [];
         is = λ log. onto log ∙ ap (λ (o : Outcome (World × List Out)). o >>= last) (h.is (moves.more log));
       }
-      go (put.Refused q) h = λ log. onto log ∙ ap (λ (o : Outcome (World × List Out)). o >>= last) (h (moves.more log))
+      go (Err q) h = λ log. onto log ∙ ap (λ (o : Outcome (World × List Out)). o >>= last) (h (moves.more log))
 
 -- ---- what the calls' own words say, in the table's
 pub own_at : (t : Table) (i : ℕ) → i < length t.rows → (mem after : List ℕ) → Ready t mem → Own i (begin_in mem i) 64 0 0 mem after → Own i (begin_of t i) 64 0 0 mem after
@@ -137,5 +135,5 @@ pub deep-some : (t : Table) (depth i : ℕ) → Deep t depth i → 0 < depth
 deep-some t zero i d = absurd d
 deep-some t (suc depth) i d = omega arith
 
-pub hands-all : (t : Table) (visit : ℕ → World × List Out → Outcome (World × List Out)) (xs ys : List ℕ) → xs ≡ ys → (r : Put) (count at : ℕ) (mem after : List ℕ) → Hands r count at (λ x. each visit xs x) t mem after → Hands r count at (λ x. each visit ys x) t mem after
+pub hands-all : (t : Table) (visit : ℕ → World × List Out → Outcome (World × List Out)) (xs ys : List ℕ) → xs ≡ ys → (r : Result ℕ Refusal) (count at : ℕ) (mem after : List ℕ) → Hands r count at (λ x. each visit xs x) t mem after → Hands r count at (λ x. each visit ys x) t mem after
 hands-all t visit xs ys e r count at mem after h = subst (λ (l : List ℕ). Hands r count at (λ x. each visit l x) t mem after) e h

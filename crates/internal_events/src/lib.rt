@@ -12,10 +12,8 @@ ghost use Rattle.views.specs.World.{end_of, Frame, Gives};
 ghost use Rattle.views.specs.Messages.{Hands};
 ghost use Rattle.model_events.specs.Events.{Event};
 
-use memory::{Answer, Put};
 use rules::Refusal;
 use table::Kind;
-use words::Found;
 
 // An atom's internal event. What it puts out stands from `at` on.
 fn atom_internal(
@@ -25,7 +23,7 @@ fn atom_internal(
     clock: f64,
     row: usize,
     at: usize,
-) -> Put
+) -> Result<usize, Refusal>
     requires { Event state.now mem.old clock row × (is_coupled (kind_at (table_in state.now) row) ≡ false) × (end_of (table_in state.now) ≤ at) × (at + 256 ≤ length mem.old) }
     ensures gives { (depth : ℕ) → Gives result at (Step.internal (table_in state.now) services.now (suc depth) clock row) (table_in state.now) mem.old mem.new }
     ensures frame { Frame (table_in state.now) at (length mem.old) mem.old mem.new }
@@ -34,8 +32,8 @@ fn atom_internal(
         Kind::Processor(model) => { queue_rows::processor_internal(mem, services, row, model, at) }
         Kind::Batcher(model) => queue_rows::batcher_internal(mem, row, model, at),
         Kind::Stopwatch(model) => watch_rows::stopwatch_internal(mem, row, model, at),
-        Kind::Coupled => Put::Refused(Refusal::BadState),
-        Kind::Broken => Put::Refused(Refusal::BadState),
+        Kind::Coupled => Err(Refusal::BadState),
+        Kind::Broken => Err(Refusal::BadState),
     }
 }
 
@@ -50,13 +48,13 @@ pub fn internal(
     clock: f64,
     row: usize,
     at: usize,
-) -> Put
+) -> Result<usize, Refusal>
     requires { Event state.now mem.old clock row × Deep (table_in state.now) depth row × (end_of (table_in state.now) ≤ at) × (at + depth * 256 ≤ length mem.old) }
     ensures gives { Gives result at (Step.internal (table_in state.now) services.now depth clock row) (table_in state.now) mem.old mem.new }
     ensures frame { Frame (table_in state.now) at (length mem.old) mem.old mem.new }
 {
     if depth == 0 {
-        return Put::Refused(Refusal::BadState);
+        return Err(Refusal::BadState);
     }
     if lookup::is_coupled(state, row) {
         return coupled_internal(state, services, mem, depth - 1, clock, row, at);
@@ -74,14 +72,14 @@ fn coupled_internal(
     clock: f64,
     row: usize,
     at: usize,
-) -> Put
+) -> Result<usize, Refusal>
     requires { Event state.now mem.old clock row × (kind_at (table_in state.now) row ≡ coupled) × All (Deep (table_in state.now) depth) (components (table_in state.now) (id_at (table_in state.now) row)) × (end_of (table_in state.now) ≤ at) × (at + 256 + depth * 256 ≤ length mem.old) }
     ensures gives { Gives result at (Step.internal (table_in state.now) services.now (suc depth) clock row) (table_in state.now) mem.old mem.new }
     ensures frame { Frame (table_in state.now) at (length mem.old) mem.old mem.new }
 {
     match unparking::unpark(state, services, mem, depth, clock, row) {
-        Answer::Refused(refusal) => Put::Refused(refusal),
-        Answer::Done => {
+        Err(refusal) => Err(refusal),
+        Ok(()) => {
             parked_rows::empty(mem, row);
             turns(state, services, mem, depth, clock, row, at)
         }
@@ -98,7 +96,7 @@ fn turns(
     clock: f64,
     row: usize,
     at: usize,
-) -> Put
+) -> Result<usize, Refusal>
     requires { Event state.now mem.old clock row × (kind_at (table_in state.now) row ≡ coupled) × All (Deep (table_in state.now) depth) (components (table_in state.now) (id_at (table_in state.now) row)) × (end_of (table_in state.now) ≤ at) × (at + 256 + depth * 256 ≤ length mem.old) }
     ensures hands { Hands result 0 at (λ x. each (Step.turn (table_in state.now) services.now depth (Step.internal (table_in state.now) services.now depth clock) row) (components (table_in state.now) (id_at (table_in state.now) row)) x) (table_in state.now) mem.old mem.new }
     ensures frame { Frame (table_in state.now) at (length mem.old) mem.old mem.new }
@@ -109,19 +107,19 @@ fn turns(
     let mut from = 0;
     while from < end {
         match lookup::next_component(state, from, owner) {
-            Found::Nothing => return Put::Out(count),
-            Found::At(component) => {
+            None => return Ok(count),
+            Some(component) => {
                 match turn(
                     state, services, mem, depth, clock, row, component, at, count,
                 ) {
-                    Put::Out(messages) => count = messages,
-                    Put::Refused(refusal) => return Put::Refused(refusal),
+                    Ok(messages) => count = messages,
+                    Err(refusal) => return Err(refusal),
                 }
                 from = component + 1;
             }
         }
     }
-    Put::Out(count)
+    Ok(count)
 }
 
 // A component's turn: where it is due it has its event, and what it puts out is handed on. The Coupled has put out `count` so far.
@@ -136,17 +134,17 @@ fn turn(
     component: usize,
     at: usize,
     count: usize,
-) -> Put
+) -> Result<usize, Refusal>
     requires { Event state.now mem.old clock row × (kind_at (table_in state.now) row ≡ coupled) × (component < length (table_in state.now).rows) × Deep (table_in state.now) depth component × (end_of (table_in state.now) ≤ at) × (at + 256 + depth * 256 ≤ length mem.old) × (count ≤ 256) }
     ensures hands { Hands result count at (Step.turn (table_in state.now) services.now depth (Step.internal (table_in state.now) services.now depth clock) row component) (table_in state.now) mem.old mem.new }
     ensures frame { Frame (table_in state.now) at (length mem.old) mem.old mem.new }
 {
     if !model_events::is_due(state, mem, depth, component) {
-        return Put::Out(count);
+        return Ok(count);
     }
     match internal(state, services, mem, depth, clock, component, at + 256) {
-        Put::Refused(refusal) => Put::Refused(refusal),
-        Put::Out(messages) => {
+        Err(refusal) => Err(refusal),
+        Ok(messages) => {
             handing::hand_all(state, mem, row, component, at + 256, messages, at, count)
         }
     }

@@ -1,11 +1,9 @@
 -- The table inside a lent state (docs/LAYOUT.md): how many rows, connectors and couplings, then their words. Definitions only. Assumes nothing.
-use Rattle.std.specs.Prelude.{ℕ, ◌+◌, ◌*◌, ◌≤◌, ◌≡◌, List, [], ◌∷◌, length, get_or, take, drop}
+use Rattle.std.specs.Prelude.{ℕ, ◌+◌, ◌*◌, ◌≤◌, ◌≡◌, List, [], ◌∷◌, length, get_or, take, drop, None, Option, Some}
 use Rattle.rules.specs.Table.{Table}
 use Rattle.rules.specs.Intake.{Posted, intake, passed}
 use Rattle.rules.specs.Decides.{whole_table}
 use Rattle.rules.specs.Layout.{lent}
-use Rattle.words.specs.declared.Found.{Found}
-use Rattle.words.specs.declared.Found.TheVariants.{At, Nothing}
 
 -- words 0, 1 and 2: how many rows, connectors and couplings there are
 abbrev pub count_in : ℕ → List ℕ → ℕ
@@ -42,6 +40,6 @@ pub record Inside (state : List ℕ) : Type 0 where
   pub passes : intake (posted_in state) ≡ passed (table_in state)
 
 -- the row that was found, if one was
-abbrev pub found_in : Found → List ℕ
-found_in (At j) = j ∷ []
-found_in Nothing = []
+abbrev pub found_in : Option ℕ → List ℕ
+found_in (Some j) = j ∷ []
+found_in None = []

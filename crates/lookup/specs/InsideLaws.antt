@@ -1,5 +1,5 @@
 -- The laws of the table inside a lent state: where its parts stand, how many rows they have, what a search in them finds, and how wide their words are. Assumes nothing.
-use Rattle.std.specs.Prelude.{ℕ, zero, suc, ◌+◌, ◌-◌, ◌*◌, ◌≤◌, ◌<◌, ◌≡◌, refl, Bool, true, false, List, [], ◌∷◌, map, length, get_or, take, drop, T, eqb, if◌then◌else◌}
+use Rattle.std.specs.Prelude.{ℕ, zero, suc, ◌+◌, ◌-◌, ◌*◌, ◌≤◌, ◌<◌, ◌≡◌, refl, Bool, true, false, List, [], ◌∷◌, map, length, get_or, take, drop, T, eqb, if◌then◌else◌, None, Some}
 use Rattle.std.proofs.Common.{sym, ap, ◌∙◌, subst, arith, zero-add, add-zero, eqb-true, get_or-take, get_or-drop, ltb→lt}
 use Rattle.std.proofs.Math.Option.{none, some}
 use Rattle.std.proofs.Math.Nat.{sub-zero}
@@ -11,7 +11,6 @@ use Rattle.rules.specs.Ends.{no-some, All, nil, ◌&◌, parts}
 use Rattle.rules.specs.Decides.{passes, tells, same, parent-decides, parentless-decides, ◌∈◌, here, there, those-element, components-element, parentless-element}
 use Rattle.rules.specs.Depth.{Fine, fine, passed-again}
 use Rattle.rules.specs.Layout.{cell, model_width, kind_in, coupling_width, coupling_row, whole_coupling}
-use Rattle.words.specs.declared.Found.TheVariants.{At, Nothing}
 use Rattle.words.specs.Lists.{part_length}
 use Rattle.words.specs.Search.{first_from}
 use Rattle.table.specs.Readers.{row_of, id_in, named, kind_of}
@@ -268,12 +267,12 @@ module _ (state : List ℕ) (inside : Inside state) where
         row-search (λ words. has_id words id) named-so (λ k. sym (id-is (models_in state) (connectors_in state) (couplings_in state) (table_in state) inside.passes id k)) 0
         ∙ ap (first_from named-so 0) (sub-zero (length (table_in state).rows))
 
-    pub no-such-row : first_from (has_id (lent_models state) id) 0 (rows_in (lent_models state) - 0) ≡ Nothing → [] ≡ those (λ j. eqb (id_at (table_in state) j) id) (components (table_in state) owner)
+    pub no-such-row : first_from (has_id (lent_models state) id) 0 (rows_in (lent_models state) - 0) ≡ None → [] ≡ those (λ j. eqb (id_at (table_in state) j) id) (components (table_in state) owner)
     no-such-row h = both-nowhere named-so owned-so (length (table_in state).rows) (sym id-search ∙ h)
 
-    module _ (row : ℕ) (h : first_from (has_id (lent_models state) id) 0 (rows_in (lent_models state) - 0) ≡ At row) where
-      pub its-component : first_from (is_component (lent_models state) owner) row (rows_in (lent_models state) - row) ≡ At row → row ∷ [] ≡ those (λ j. eqb (id_at (table_in state) j) id) (components (table_in state) owner)
+    module _ (row : ℕ) (h : first_from (has_id (lent_models state) id) 0 (rows_in (lent_models state) - 0) ≡ Some row) where
+      pub its-component : first_from (is_component (lent_models state) owner) row (rows_in (lent_models state) - row) ≡ Some row → row ∷ [] ≡ those (λ j. eqb (id_at (table_in state) j) id) (components (table_in state) owner)
       its-component g = both-here named-so owned-so (length (table_in state).rows) unique-id row (sym id-search ∙ h) (sym (component-search owner row) ∙ g)
 
-      pub not-its-component : (first_from (is_component (lent_models state) owner) row (rows_in (lent_models state) - row) ≡ At row → ⊥) → [] ≡ those (λ j. eqb (id_at (table_in state) j) id) (components (table_in state) owner)
+      pub not-its-component : (first_from (is_component (lent_models state) owner) row (rows_in (lent_models state) - row) ≡ Some row → ⊥) → [] ≡ those (λ j. eqb (id_at (table_in state) j) id) (components (table_in state) owner)
       not-its-component never = both-not named-so owned-so (length (table_in state).rows) unique-id row (sym id-search ∙ h) (λ g. never (component-search owner row ∙ g))

@@ -1,8 +1,7 @@
 -- Where at most one place passes the first of two tests, two searches tell which place passes both. Assumes nothing.
-use Rattle.std.specs.Prelude.{ℕ, zero, suc, ◌+◌, ◌-◌, ◌≤◌, ◌<◌, ◌≡◌, refl, Bool, true, false, List, [], ◌∷◌, if◌then◌else◌}
+use Rattle.std.specs.Prelude.{ℕ, zero, suc, ◌+◌, ◌-◌, ◌≤◌, ◌<◌, ◌≡◌, refl, Bool, true, false, List, [], ◌∷◌, if◌then◌else◌, None, Some}
 use Rattle.std.proofs.Common.{sym, ap, ◌∙◌, arith}
 use Rattle.rules.specs.Base.{those, from}
-use Rattle.words.specs.declared.Found.TheVariants.{At, Nothing}
 use Rattle.words.specs.Search.{first_from}
 use Rattle.words.specs.SearchLaws.{search-hit, first-at, first-nothing}
 
@@ -28,10 +27,10 @@ none_pass test k (suc n) never = by (test k) refl (none_pass test (suc k) n (λ 
 -- `one` passes at one place at most of the n; `other` is any test
 module _ (one other : ℕ → Bool) (n : ℕ) where
   -- no place passes the first
-  pub both-nowhere : first_from one 0 n ≡ Nothing → [] ≡ those one (those other (from 0 n))
+  pub both-nowhere : first_from one 0 n ≡ None → [] ≡ those one (those other (from 0 n))
   both-nowhere h = sym (those-turned one other (from 0 n) ∙ ap (those other) (first-nothing one 0 n h))
 
-  module _ (unique : (i j : ℕ) → i < n → j < n → one i ≡ true → one j ≡ true → i ≡ j) (row : ℕ) (h : first_from one 0 n ≡ At row) where
+  module _ (unique : (i j : ℕ) → i < n → j < n → one i ≡ true → one j ≡ true → i ≡ j) (row : ℕ) (h : first_from one 0 n ≡ Some row) where
     only : those one (from 0 n) ≡ row ∷ []
     only =
         let first = first-at one 0 n row h in
@@ -46,12 +45,12 @@ module _ (one other : ℕ → Bool) (n : ℕ) where
     both-are = those-turned one other (from 0 n) ∙ ap (those other) only
 
     -- the second search begins at the row that the first found: it passes both where it is found again
-    pub both-here : first_from other row (n - row) ≡ At row → row ∷ [] ≡ those one (those other (from 0 n))
+    pub both-here : first_from other row (n - row) ≡ Some row → row ∷ [] ≡ those one (those other (from 0 n))
     both-here g = sym (both-are ∙ rw (first-at other row (n - row) row g).2)
 
-    fails : (b : Bool) → other row ≡ b → (first_from other row (n - row) ≡ At row → ⊥) → [] ≡ those one (those other (from 0 n))
+    fails : (b : Bool) → other row ≡ b → (first_from other row (n - row) ≡ Some row → ⊥) → [] ≡ those one (those other (from 0 n))
     fails true e never = absurd (never (search-hit other row n row_below e))
     fails false e never = sym (both-are ∙ rw e)
 
-    pub both-not : (first_from other row (n - row) ≡ At row → ⊥) → [] ≡ those one (those other (from 0 n))
+    pub both-not : (first_from other row (n - row) ≡ Some row → ⊥) → [] ≡ those one (those other (from 0 n))
     both-not = fails (other row) refl

@@ -12,7 +12,6 @@ ghost use Rattle.lookup.specs.Inside.{Inside, tail_at, table_in, connectors_in, 
 
 use selection::{Link, Target};
 use table::Kind;
-use words::Found;
 
 // How many model rows the table has.
 pub fn row_count(state: &[u64]) -> usize
@@ -76,7 +75,7 @@ pub fn is_coupled(state: &[u64], row: usize) -> bool
 }
 
 // The first component of an owner from a row on, or Nothing.
-pub fn next_component(state: &[u64], from: usize, owner: u64) -> Found
+pub fn next_component(state: &[u64], from: usize, owner: u64) -> Option<usize>
     requires { Inside state.now }
     ensures { result ≡ first_from (λ j. is_parent owner (row_at (table_in state.now) j).parent) from (length (table_in state.now).rows - from) }
 {
@@ -85,7 +84,7 @@ pub fn next_component(state: &[u64], from: usize, owner: u64) -> Found
 }
 
 // The first row without parent from a row on, or Nothing.
-pub fn next_parentless(state: &[u64], from: usize) -> Found
+pub fn next_parentless(state: &[u64], from: usize) -> Option<usize>
     requires { Inside state.now }
     ensures { result ≡ first_from (λ j. is_parentless (row_at (table_in state.now) j).parent) from (length (table_in state.now).rows - from) }
 {
@@ -94,27 +93,27 @@ pub fn next_parentless(state: &[u64], from: usize) -> Found
 }
 
 // The component of this owner that has this id, or Nothing. Ids differ, so there is one at most.
-pub fn component_of(state: &[u64], owner: u64, id: u64) -> Found
+pub fn component_of(state: &[u64], owner: u64, id: u64) -> Option<usize>
     requires { Inside state.now }
     ensures { found_in result ≡ those (λ j. eqb (id_at (table_in state.now) j) id) (components (table_in state.now) owner) }
 {
     let end = state[0] as usize * 10 + 3;
     let models = &state[3..end];
     match selection::next_with_id(models, 0, id) {
-        Found::Nothing => Found::Nothing,
-        Found::At(row) => match selection::next_component(models, row, owner) {
-            Found::Nothing => Found::Nothing,
-            Found::At(found) => if found == row {
-                Found::At(row)
+        None => None,
+        Some(row) => match selection::next_component(models, row, owner) {
+            None => None,
+            Some(found) => if found == row {
+                Some(row)
             } else {
-                Found::Nothing
+                None
             },
         },
     }
 }
 
 // The first external input coupling of an owner at a port, from a place on, or Nothing.
-pub fn next_input(state: &[u64], from: usize, owner: u64, port: u64) -> Found
+pub fn next_input(state: &[u64], from: usize, owner: u64, port: u64) -> Option<usize>
     requires { Inside state.now }
     ensures { result ≡ first_from (is_input (couplings_in state.now) owner port) from (length (table_in state.now).couplings - from) }
 {
@@ -125,7 +124,7 @@ pub fn next_input(state: &[u64], from: usize, owner: u64, port: u64) -> Found
 }
 
 // The first external output coupling of an owner from a component's port, from a place on, or Nothing.
-pub fn next_output(state: &[u64], from: usize, owner: u64, source: u64, port: u64) -> Found
+pub fn next_output(state: &[u64], from: usize, owner: u64, source: u64, port: u64) -> Option<usize>
     requires { Inside state.now }
     ensures { result ≡ first_from (is_output (couplings_in state.now) owner source port) from (length (table_in state.now).couplings - from) }
 {
@@ -136,7 +135,7 @@ pub fn next_output(state: &[u64], from: usize, owner: u64, source: u64, port: u6
 }
 
 // The first internal coupling of an owner from a component's port, from a place on, or Nothing.
-pub fn next_internal(state: &[u64], from: usize, owner: u64, source: u64, port: u64) -> Found
+pub fn next_internal(state: &[u64], from: usize, owner: u64, source: u64, port: u64) -> Option<usize>
     requires { Inside state.now }
     ensures { result ≡ first_from (is_internal (couplings_in state.now) owner source port) from (length (table_in state.now).couplings - from) }
 {

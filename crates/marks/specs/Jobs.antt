@@ -1,11 +1,9 @@
 -- A stopwatch's jobs in lent words: from the words to the rules' list of jobs, and what is read from it. Assumes nothing.
-use Rattle.std.specs.Prelude.{ℕ, ◌+◌, Bool, ◌&&◌, List, [], ◌∷◌, map, length, from_bits, nat_le, slice_index, Float, if◌then◌else◌}
+use Rattle.std.specs.Prelude.{ℕ, ◌+◌, Bool, ◌&&◌, List, [], ◌∷◌, map, length, from_bits, nat_le, slice_index, Float, if◌then◌else◌, None, Some}
 use Rattle.std.proofs.Math.Option.{Option, none, some}
 use Rattle.std.specs.Float.{binary64}
 use Rattle.times.specs.Time.{is_timer}
 use Rattle.times.specs.Answers.{time_of_bits}
-use Rattle.times.specs.declared.TimeOf.{TimeOf}
-use Rattle.times.specs.declared.TimeOf.TheVariants.{Time, Bad}
 use Rattle.rules.specs.declared.Metric.{Metric}
 use Rattle.rules.specs.Sizes.{most_jobs}
 use Rattle.rules.specs.Base.{every, hold, from}
@@ -28,9 +26,9 @@ abbrev pub width : ℕ
 width = 192
 
 -- a mark is made where its word holds a time
-abbrev pub time_in : TimeOf → Option Float
-time_in (Time x) = some x
-time_in Bad = none
+abbrev pub time_in : Option Float → Option Float
+time_in (Some x) = some x
+time_in None = none
 
 abbrev pub mark_in : ℕ → Option Float
 mark_in word = time_in (time_of_bits word)

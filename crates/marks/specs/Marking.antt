@@ -1,11 +1,9 @@
 -- Setting the clock on a job in lent words. Assumes nothing.
-use Rattle.std.specs.Prelude.{ℕ, suc, ◌+◌, List, nat_eq, nat_lt, slice_index, slice_set, to_bits, Float, if◌then◌else◌}
+use Rattle.std.specs.Prelude.{ℕ, suc, ◌+◌, List, nat_eq, nat_lt, slice_index, slice_set, to_bits, Float, if◌then◌else◌, None, Option, Some}
 use Rattle.std.specs.Float.{binary64}
 use Rattle.times.specs.Time.{never}
 use Rattle.rules.specs.Sizes.{most_jobs}
 use Rattle.words.specs.Search.{first_from}
-use Rattle.words.specs.declared.Found.{Found}
-use Rattle.words.specs.declared.Found.TheVariants.{At, Nothing}
 use Rattle.marks.specs.declared.Mark.{Mark}
 use Rattle.marks.specs.declared.Mark.TheVariants.{Start, Stop}
 use Rattle.marks.specs.declared.Marking.{Marking}
@@ -23,9 +21,9 @@ with_name held name words = slice_set (slice_set (slice_set words held name) (st
 abbrev pub mark_at : Mark → Float → ℕ → List ℕ → List ℕ
 mark_at mark clock k words = slice_set words (column_of mark + k) (to_bits binary64 clock)
 
-abbrev pub placed : Mark → ℕ → ℕ → Float → List ℕ → Found → Marking × List ℕ
-placed mark held name clock words (At k) = (Held held, mark_at mark clock k words)
-placed mark held name clock words Nothing =
+abbrev pub placed : Mark → ℕ → ℕ → Float → List ℕ → Option ℕ → Marking × List ℕ
+placed mark held name clock words (Some k) = (Held held, mark_at mark clock k words)
+placed mark held name clock words None =
     if nat_lt held most_jobs then (Held (suc held), mark_at mark clock held (with_name held name words)) else (NoRoom, words)
 
 -- the words after a mark, and the number of names then

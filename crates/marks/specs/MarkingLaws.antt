@@ -1,5 +1,5 @@
 -- The laws of a stopwatch's jobs in lent words, for other crates: what the rules say of them, and what a mark keeps. Assumes nothing.
-use Rattle.std.specs.Prelude.{◌≡◌, ℕ, zero, suc, ◌+◌, ◌-◌, ◌^◌, ◌<◌, ◌≤◌, Bool, true, false, T, ◌⊎◌, List, [], ◌∷◌, ◌++◌, map, length, take, drop, set, ◌==◌, ◌≢◌, nat_le, nat_lt, slice_index, slice_index_or, slice_set, refl, Float, if◌then◌else◌}
+use Rattle.std.specs.Prelude.{◌≡◌, ℕ, zero, suc, ◌+◌, ◌-◌, ◌^◌, ◌<◌, ◌≤◌, Bool, true, false, T, ◌⊎◌, List, [], ◌∷◌, ◌++◌, map, length, take, drop, set, ◌==◌, ◌≢◌, nat_le, nat_lt, slice_index, slice_index_or, slice_set, refl, Float, if◌then◌else◌, None, Option, Some}
 use Rattle.std.proofs.Common.{sym, ap, ◌∙◌, subst, arith, eq-or-lt_of_le, inl, inr, ⊎_elim, length-set, drop-cons, drop-set-lt, get_or-take, get_or-set_same, get_or-set_other, leb→le, le→leb, eqb→eq, lt→ltb}
 use borrow.Author.Tests.{lt-ltb, le-ltb, ltb-true, ltb-false, eqb-true, eqb-false}
 use Rattle.std.proofs.lemmas.Simd.{map-map}
@@ -24,8 +24,6 @@ use Rattle.rules.specs.Decides.{Differ, differ-decides, tells, passes}
 use Rattle.words.specs.Lists.{length-lines, map-from, map_last}
 use Rattle.words.specs.Search.{first_from}
 use Rattle.words.specs.SearchLaws.{is_found, first-at, first_some}
-use Rattle.words.specs.declared.Found.{Found}
-use Rattle.words.specs.declared.Found.TheVariants.{At, Nothing}
 use Rattle.marks.specs.declared.Marking.{Marking}
 use Rattle.marks.specs.declared.Marking.TheVariants.{Held, NoRoom, CutShort}
 use Rattle.marks.specs.declared.Mark.{Mark}
@@ -51,11 +49,11 @@ module _ (test : ℕ → Bool) where
   every-from k (suc n) f =
       if-both-i (test k) (every test (from (suc k) n)) (f k (omega arith) (omega arith)) (every-from (suc k) n (λ j a b. f j (omega arith) (omega arith)))
 
-  first-none : (k n j : ℕ) → first_from test k n ≡ Nothing → k ≤ j → j < k + n → test j ≡ false
+  first-none : (k n j : ℕ) → first_from test k n ≡ None → k ≤ j → j < k + n → test j ≡ false
   first-none k zero j e a b = none_between k j a b
   first-none k (suc n) j e a b = go (test k) refl e (λ f l. first-none (suc k) n j f l (omega arith))
     where
-      go : (b : Bool) → test k ≡ b → (if b then At k else first_from test (suc k) n) ≡ Nothing → (first_from test (suc k) n ≡ Nothing → k < j → test j ≡ false) → test j ≡ false
+      go : (b : Bool) → test k ≡ b → (if b then Some k else first_from test (suc k) n) ≡ None → (first_from test (suc k) n ≡ None → k < j → test j ≡ false) → test j ≡ false
       go true t e f = cc
       go false t e f = ⊎_elim (λ q. ap test (sym q) ∙ t) (f e) (eq-or-lt_of_le a)
 
@@ -125,11 +123,11 @@ module _ (mark : Mark) (held name : ℕ) (clock : Float) (words : List ℕ) wher
   marked-short e = rw e
 
   module _ (whole : whole_in held words ≡ true) where
-    pub marked-at : (k : ℕ) → first_from (is_named_at words name) 0 held ≡ At k → marked_in mark held name clock words ≡ (Held held, mark_at mark clock k words)
+    pub marked-at : (k : ℕ) → first_from (is_named_at words name) 0 held ≡ Some k → marked_in mark held name clock words ≡ (Held held, mark_at mark clock k words)
     unfolding marked_in
     marked-at k e = rw (whole, e)
 
-    module _ (none : first_from (is_named_at words name) 0 held ≡ Nothing) where
+    module _ (none : first_from (is_named_at words name) 0 held ≡ None) where
       pub marked-full : held ≡ most_jobs → marked_in mark held name clock words ≡ (NoRoom, words)
       unfolding marked_in
       marked-full e = rw (whole, none, le-ltb held most_jobs (omega arith))
@@ -141,19 +139,19 @@ module _ (mark : Mark) (held name : ℕ) (clock : Float) (words : List ℕ) wher
   -- what holds of each answer holds of the mark
   marked-cases : (P : Marking × List ℕ → Type 0)
       → (whole_in held words ≡ false → P (CutShort, words))
-      → (whole_in held words ≡ true → (k : ℕ) → first_from (is_named_at words name) 0 held ≡ At k → P (Held held, mark_at mark clock k words))
-      → (whole_in held words ≡ true → first_from (is_named_at words name) 0 held ≡ Nothing → held ≡ most_jobs → P (NoRoom, words))
-      → (whole_in held words ≡ true → first_from (is_named_at words name) 0 held ≡ Nothing → held < most_jobs → P (Held (suc held), mark_at mark clock held (with_name held name words)))
+      → (whole_in held words ≡ true → (k : ℕ) → first_from (is_named_at words name) 0 held ≡ Some k → P (Held held, mark_at mark clock k words))
+      → (whole_in held words ≡ true → first_from (is_named_at words name) 0 held ≡ None → held ≡ most_jobs → P (NoRoom, words))
+      → (whole_in held words ≡ true → first_from (is_named_at words name) 0 held ≡ None → held < most_jobs → P (Held (suc held), mark_at mark clock held (with_name held name words)))
       → P (marked_in mark held name clock words)
   marked-cases P short at full new = by_whole (whole_in held words) refl
     where
-      by-room : whole_in held words ≡ true → first_from (is_named_at words name) 0 held ≡ Nothing → (held ≡ most_jobs) ⊎ (held < most_jobs) → P (marked_in mark held name clock words)
+      by-room : whole_in held words ≡ true → first_from (is_named_at words name) 0 held ≡ None → (held ≡ most_jobs) ⊎ (held < most_jobs) → P (marked_in mark held name clock words)
       by-room w n (inl e) = subst P (sym (marked-full w n e)) (full w n e)
       by-room w n (inr l) = subst P (sym (marked-new w n (λ e. omega arith))) (new w n l)
 
-      by-found : whole_in held words ≡ true → (f : Found) → first_from (is_named_at words name) 0 held ≡ f → P (marked_in mark held name clock words)
-      by-found w (At k) e = subst P (sym (marked-at w k e)) (at w k e)
-      by-found w Nothing e = by-room w e (eq-or-lt_of_le (whole_says held words w).0)
+      by-found : whole_in held words ≡ true → (f : Option ℕ) → first_from (is_named_at words name) 0 held ≡ f → P (marked_in mark held name clock words)
+      by-found w (Some k) e = subst P (sym (marked-at w k e)) (at w k e)
+      by-found w None e = by-room w e (eq-or-lt_of_le (whole_says held words w).0)
 
       by_whole : (b : Bool) → whole_in held words ≡ b → P (marked_in mark held name clock words)
       by_whole true w = by-found w (first_from (is_named_at words name) 0 held) refl
@@ -331,7 +329,7 @@ some-named : (held name : ℕ) (words : List ℕ) → some_of (is_named name) (j
 some-named held name words = some-map (is_named name) (job_at words) (from 0 held) ∙ sym (first_some (is_named_at words name) 0 held)
 
 module _ (mark : Mark) (held name : ℕ) (clock : Float) (words : List ℕ) (time : T (is_time clock)) where
-  jobs-at : whole_in held words ≡ true → T (differ (names (jobs_in held words))) → (k : ℕ) → first_from (is_named_at words name) 0 held ≡ At k
+  jobs-at : whole_in held words ≡ true → T (differ (names (jobs_in held words))) → (k : ℕ) → first_from (is_named_at words name) 0 held ≡ Some k
       → jobs_in held (mark_at mark clock k words) ≡ map (λ j. if is_named name j then mark_of mark clock j else j) (jobs_in held words)
   jobs-at whole apart k e =
       sym (map-map (λ j. if is_named name j then mark_of mark clock j else j) (job_at words) (from 0 held)

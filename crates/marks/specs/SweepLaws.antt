@@ -1,5 +1,5 @@
 -- The laws of the loops: one job more, the end, and what a test showed. Assumes nothing.
-use Rattle.std.specs.Prelude.{◌≡◌, ℕ, zero, suc, ◌+◌, ◌-◌, ◌*◌, ◌^◌, ◌<◌, ◌≤◌, Bool, true, false, not, ◌&&◌, T, List, [], ◌∷◌, map, length, pos, ◌==◌, ◌≢◌, nat_eq, slice_index, refl, Float, if◌then◌else◌}
+use Rattle.std.specs.Prelude.{◌≡◌, ℕ, zero, suc, ◌+◌, ◌-◌, ◌*◌, ◌^◌, ◌<◌, ◌≤◌, Bool, true, false, not, ◌&&◌, T, List, [], ◌∷◌, map, length, pos, ◌==◌, ◌≢◌, nat_eq, slice_index, refl, Float, if◌then◌else◌, None, Some}
 use Rattle.std.proofs.Common.{sym, ap, ◌∙◌, subst, arith, div-one, lt-ltb, le-ltb}
 use Rattle.std.proofs.Math.Option.{Option, none, some}
 use Rattle.std.specs.Float.{binary64}
@@ -8,9 +8,6 @@ use Rattle.std.specs.Float.Ieee.Bits.{is_true}
 use Rattle.times.specs.Time.{instant, is_time, is_timer}
 use Rattle.times.specs.Answers.{time_of_bits, timer_of_bits}
 use Rattle.times.proofs.AnswerLaws.{time-says, timer-says}
-use Rattle.times.specs.declared.TimeOf.{TimeOf}
-use Rattle.times.specs.declared.TimeOf.TheVariants.{Time, Bad}
-use Rattle.times.specs.declared.TimerOf.TheVariants.{Timer}
 use Rattle.rules.specs.declared.Metric.{Metric}
 use Rattle.rules.specs.Sizes.{is_content}
 use Rattle.rules.specs.Base.{hold, every, some_of, from}
@@ -20,8 +17,6 @@ use Rattle.rules.specs.Valid.{mark_fits as fitting, marks_rules, names, member, 
 use Rattle.words.specs.Search.{cell_of, first_from, matches, next_row}
 use Rattle.words.specs.SearchLaws.{is_found, first_some, first-ext, next-row-first}
 use Rattle.words.specs.declared.Key.{Key}
-use Rattle.marks.specs.declared.Lasting.{Lasting}
-use Rattle.marks.specs.declared.Lasting.TheVariants.{Lasted, Open}
 use Rattle.marks.specs.declared.Best.{Best}
 use Rattle.marks.specs.declared.Total.{Total}
 use Rattle.marks.specs.declared.Fetched.TheVariants as fetching
@@ -33,9 +28,9 @@ use Rattle.marks.specs.Marking.{column_of}
 use Rattle.marks.specs.Sweeps.{lasting_of, lasting_at, durations_from, duration_of, better_with, better_at, best_from, fetched_from, added_with, added_at, no_total, total_from, is_named_at, fit_at, fit_from}
 
 -- what a job adds to the durations after it
-abbrev joined : ℕ → Lasting → List Duration → List Duration
-joined name Open ds = ds
-joined name (Lasted d) ds = record { name = name; length = d } ∷ ds
+abbrev joined : ℕ → Option Float → List Duration → List Duration
+joined name None ds = ds
+joined name (Some d) ds = record { name = name; length = d } ∷ ds
 
 durations-next : (words : List ℕ) (k n : ℕ) → durations_from words k (suc n) ≡ joined (slice_index words k) (lasting_at words k) (durations_from words (suc k) n)
 unfolding lasting_at durations_from
@@ -61,16 +56,16 @@ best-next metric words best k n = ap (λ ds. (best_of metric (duration_of best) 
     pick d true = refl
     pick d false = refl
 
-    go : (l : Lasting) → (best_of metric (duration_of best) (joined (slice_index words k) l ds)).name ≡ (best_of metric (duration_of (better_with metric best (slice_index words k) l)) ds).name
-    go Open = refl
-    go (Lasted d) = pick d (better metric d best.length)
+    go : (l : Option Float) → (best_of metric (duration_of best) (joined (slice_index words k) l ds)).name ≡ (best_of metric (duration_of (better_with metric best (slice_index words k) l)) ds).name
+    go None = refl
+    go (Some d) = pick d (better metric d best.length)
 
-pub fetched-open : (metric : Metric) (words : List ℕ) (k n : ℕ) → lasting_at words k ≡ Open → fetched_from metric words k (suc n) ≡ fetched_from metric words (suc k) n
+pub fetched-open : (metric : Metric) (words : List ℕ) (k n : ℕ) → lasting_at words k ≡ None → fetched_from metric words k (suc n) ≡ fetched_from metric words (suc k) n
 unfolding fetched_from
 fetched-open metric words k n e =
     ap (λ ds. first_job (fetched metric ds)) (durations-next words k n ∙ ap (λ l. joined (slice_index words k) l (durations_from words (suc k) n)) e)
 
-pub fetched-lasted : (metric : Metric) (words : List ℕ) (k n : ℕ) (d : Float) → lasting_at words k ≡ Lasted d
+pub fetched-lasted : (metric : Metric) (words : List ℕ) (k n : ℕ) (d : Float) → lasting_at words k ≡ Some d
     → fetched_from metric words k (suc n) ≡ fetching.Job (best_from metric words (record { name = slice_index words k; length = d }) (suc k) n)
 unfolding fetched_from best_from
 fetched-lasted metric words k n d e =
@@ -86,17 +81,17 @@ total-next words total k n = ap (λ ds. record { sum = summed total.sum ds; coun
     of : Total → List Duration → Total
     of t xs = record { sum = summed t.sum xs; count = t.count + length xs }
 
-    go : (l : Lasting) → of total (joined (slice_index words k) l ds) ≡ of (added_with total l) ds
-    go Open = refl
-    go (Lasted d) = ap (λ c. record { sum = summed (add binary64 total.sum d) ds; count = c }) (omega arith)
+    go : (l : Option Float) → of total (joined (slice_index words k) l ds) ≡ of (added_with total l) ds
+    go None = refl
+    go (Some d) = ap (λ c. record { sum = summed (add binary64 total.sum d) ds; count = c }) (omega arith)
 
 pub added-low : (words : List ℕ) (total : Total) (k : ℕ) → total.count ≤ k → (added_at words total k).count ≤ k + 1
 unfolding added_at
 added-low words total k h = go (lasting_at words k)
   where
-    go : (l : Lasting) → (added_with total l).count ≤ k + 1
-    go Open = omega arith
-    go (Lasted d) = omega arith
+    go : (l : Option Float) → (added_with total l).count ≤ k + 1
+    go None = omega arith
+    go (Some d) = omega arith
 
 -- ---- a loop that goes to `held`
 -- its start
@@ -187,9 +182,9 @@ member-found words name k n =
 pub mark-fits : (word : ℕ) → fitting (mark_in word) ≡ true
 mark-fits word = go (time_of_bits word) refl
   where
-    go : (t : TimeOf) → time_of_bits word ≡ t → fitting (time_in t) ≡ true
-    go (Time x) e = is_true (is_time x) (time-says word x e).0
-    go Bad e = refl
+    go : (t : Option Float) → time_of_bits word ≡ t → fitting (time_in t) ≡ true
+    go (Some x) e = is_true (is_time x) (time-says word x e).0
+    go None e = refl
 
 abbrev fit_rest : List ℕ → ℕ → ℕ → Bool
 fit_rest words k n = hold (every (words_fit words) (from k n) ∷ every (λ j. hold (marks_rules j)) (map (job_at words) (from k n)) ∷ differ (names (map (job_at words) (from k n))) ∷ [])
@@ -242,7 +237,7 @@ unfolding fit_from
 fit-turn words k held h = turn (fit_from words) (λ j n. fit_at words k n && fit_from words j n) k held (λ n. refl) h
 
 -- ---- what a test showed
-pub timer-fits : (word : ℕ) (x : Float) → timer_of_bits word ≡ Timer x → mark_fits word ≡ true
+pub timer-fits : (word : ℕ) (x : Float) → timer_of_bits word ≡ Some x → mark_fits word ≡ true
 timer-fits word x e = let w = timer-says word x e in is_true (mark_fits word) (subst (λ y. T (is_timer y)) w.1 w.0)
 
 pub content-low : (name : ℕ) → name ≤ 0xFFFF_FFFF → is_content name ≡ true

@@ -1,5 +1,5 @@
 -- What the parts of `fetch`, `mean` and `fit` answer, from a place on. Assumes nothing.
-use Rattle.std.specs.Prelude.{ℕ, zero, suc, ◌+◌, Bool, true, not, ◌&&◌, List, [], ◌∷◌, map, length, ◌==◌, slice_index, Float, if◌then◌else◌}
+use Rattle.std.specs.Prelude.{ℕ, zero, suc, ◌+◌, Bool, true, not, ◌&&◌, List, [], ◌∷◌, map, length, ◌==◌, slice_index, Float, if◌then◌else◌, None, Some}
 use Rattle.std.proofs.Math.Option.{Option, none, some}
 use Rattle.std.specs.Float.{binary64}
 use Rattle.std.specs.Float.Ieee.{sub, add}
@@ -10,20 +10,18 @@ use Rattle.rules.specs.Base.{hold, from}
 use Rattle.rules.specs.Models.{Duration, durations, better, best_of, fetched, summed}
 use Rattle.words.specs.Search.{first_from}
 use Rattle.words.specs.SearchLaws.{is_found}
-use Rattle.marks.specs.declared.Lasting.{Lasting}
-use Rattle.marks.specs.declared.Lasting.TheVariants.{Lasted, Open}
 use Rattle.marks.specs.declared.Best.{Best}
 use Rattle.marks.specs.declared.Total.{Total}
 use Rattle.marks.specs.declared.Fetched.{Fetched}
 use Rattle.marks.specs.Jobs.{starts_at, stops_at, mark_in, mark_fits, job_at, first_job}
 
 -- ---- durations
-abbrev pub lasting_of : Option Float → Option Float → Lasting
-lasting_of none stop = Open
-lasting_of (some start) none = Open
-lasting_of (some start) (some stop) = Lasted (sub binary64 stop start)
+abbrev pub lasting_of : Option Float → Option Float → Option Float
+lasting_of none stop = None
+lasting_of (some start) none = None
+lasting_of (some start) (some stop) = Some (sub binary64 stop start)
 
-unfoldable pub lasting_at : List ℕ → ℕ → Lasting
+unfoldable pub lasting_at : List ℕ → ℕ → Option Float
 lasting_at words k = lasting_of (mark_in (slice_index words (starts_at + k))) (mark_in (slice_index words (stops_at + k)))
 
 -- the complete durations of n jobs from the place k on
@@ -34,9 +32,9 @@ durations_from words k n = durations (map (job_at words) (from k n))
 abbrev pub duration_of : Best → Duration
 duration_of b = record { name = b.name; length = b.length }
 
-abbrev pub better_with : Metric → Best → ℕ → Lasting → Best
-better_with metric best name Open = best
-better_with metric best name (Lasted d) = if better metric d best.length then record { name = name; length = d } else best
+abbrev pub better_with : Metric → Best → ℕ → Option Float → Best
+better_with metric best name None = best
+better_with metric best name (Some d) = if better metric d best.length then record { name = name; length = d } else best
 
 unfoldable pub better_at : Metric → List ℕ → Best → ℕ → Best
 better_at metric words best k = better_with metric best (slice_index words k) (lasting_at words k)
@@ -48,9 +46,9 @@ unfoldable pub fetched_from : Metric → List ℕ → ℕ → ℕ → Fetched
 fetched_from metric words k n = first_job (fetched metric (durations_from words k n))
 
 -- ---- the sum and the number
-abbrev pub added_with : Total → Lasting → Total
-added_with total Open = total
-added_with total (Lasted d) = record { sum = add binary64 total.sum d; count = total.count + 1 }
+abbrev pub added_with : Total → Option Float → Total
+added_with total None = total
+added_with total (Some d) = record { sum = add binary64 total.sum d; count = total.count + 1 }
 
 unfoldable pub added_at : List ℕ → Total → ℕ → Total
 added_at words total k = added_with total (lasting_at words k)

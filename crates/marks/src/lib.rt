@@ -9,8 +9,7 @@ ghost use Rattle.marks.specs.Marking.{column_of, with_name, mark_at, marked_in};
 ghost use Rattle.marks.specs.Sweeps.{lasting_at, better_at, best_from, fetched_from, added_at, no_total, total_from, fit_at, fit_from};
 
 use rules::Metric;
-use times::{TimeOf, TimerOf};
-use words::{Cell, Found, Key};
+use words::{Cell, Key};
 
 #[derive(Clone, Copy)]
 pub enum Mark {
@@ -42,13 +41,6 @@ pub enum MeanOf {
     CutShort,
 }
 
-// How long a job lasted.
-#[derive(Clone, Copy)]
-enum Lasting {
-    Lasted(f64),
-    Open,
-}
-
 // The best job so far.
 #[derive(Clone, Copy)]
 struct Best {
@@ -74,19 +66,19 @@ fn whole(words: &[u64], held: u64) -> bool
 }
 
 // Stop less start, where both are times.
-fn length_of(words: &[u64], k: usize) -> Lasting
+fn length_of(words: &[u64], k: usize) -> Option<f64>
     requires { (k < 64) × (192 ≤ length words.now) }
     ensures { result ≡ lasting_at words.now k }
 {
     let started = times::time_of_bits(words[64 + k]);
-    let TimeOf::Time(start) = started else {
-        return Lasting::Open;
+    let Some(start) = started else {
+        return None;
     };
     let stopped = times::time_of_bits(words[128 + k]);
-    let TimeOf::Time(stop) = stopped else {
-        return Lasting::Open;
+    let Some(stop) = stopped else {
+        return None;
     };
-    Lasting::Lasted(stop - start)
+    Some(stop - start)
 }
 
 // Whether a duration takes the place of the best so far.
@@ -105,7 +97,7 @@ fn better_of(words: &[u64], metric: Metric, best: Best, k: usize) -> Best
     ensures { result ≡ better_at metric words.now best k }
 {
     let lasting = length_of(words, k);
-    let Lasting::Lasted(length) = lasting else {
+    let Some(length) = lasting else {
         return best;
     };
     if is_better(metric, length, best.length) {
@@ -139,7 +131,7 @@ fn fetch_from(words: &[u64], held: usize, metric: Metric) -> Fetched
     let mut k = 0;
     while k < held {
         let lasting = length_of(words, k);
-        if let Lasting::Lasted(length) = lasting {
+        if let Some(length) = lasting {
             let first = Best {
                 name: words[k],
                 length: length,
@@ -157,7 +149,7 @@ fn add_to(words: &[u64], total: Total, k: usize) -> Total
     ensures { result ≡ added_at words.now total k }
 {
     let lasting = length_of(words, k);
-    let Lasting::Lasted(length) = lasting else {
+    let Some(length) = lasting else {
         return total;
     };
     Total {
@@ -181,7 +173,7 @@ fn total_of(words: &[u64], held: usize) -> Total
 }
 
 // The first place from `from` on, of the first `held`, that has this name.
-fn find(words: &[u64], from: usize, held: usize, name: u64) -> Found
+fn find(words: &[u64], from: usize, held: usize, name: u64) -> Option<usize>
     requires { held ≤ length words.now }
     ensures { result ≡ first_from (λ k. nat_eq (slice_index words.now k) name) from (held - from) }
 {
@@ -201,8 +193,8 @@ fn is_mark(word: u64) -> bool
 {
     let timer = times::timer_of_bits(word);
     match timer {
-        TimerOf::Timer(_) => true,
-        TimerOf::NoTimer => false,
+        Some(_) => true,
+        None => false,
     }
 }
 
@@ -223,8 +215,8 @@ fn fits_at(words: &[u64], k: usize, held: usize) -> bool
     }
     let again = find(words, k + 1, held, name);
     match again {
-        Found::At(_) => false,
-        Found::Nothing => true,
+        Some(_) => false,
+        None => true,
     }
 }
 
@@ -282,7 +274,7 @@ pub fn set_mark(words: &mut [u64], held: u64, name: u64, mark: Mark, clock: f64)
     }
     let end = held as usize;
     let found = find(words, 0, end, name);
-    if let Found::At(k) = found {
+    if let Some(k) = found {
         put_mark(words, k, mark, clock);
         return Marking::Held(held);
     }

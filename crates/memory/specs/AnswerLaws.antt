@@ -1,5 +1,5 @@
 -- The laws of an answer: what it says of the rules' outcome; and a word put out is read as it was. Assumes nothing.
-use Rattle.std.specs.Prelude.{ℕ, ◌+◌, ◌*◌, ◌/◌, ◌%◌, ◌<◌, ◌≡◌, refl}
+use Rattle.std.specs.Prelude.{ℕ, ◌+◌, ◌*◌, ◌/◌, ◌%◌, ◌<◌, ◌≡◌, refl, Err, Ok, tt}
 use Rattle.std.proofs.Common.{sym, ap, ◌∙◌, mod-eq_of_lt, arith}
 use Rattle.std.proofs.Math.Nat.{mul-add-div_right, div-eq_of_lt, mul-add-mod_self_right}
 use Rattle.rules.specs.declared.Refusal.{Refusal}
@@ -9,14 +9,13 @@ use Rattle.rules.specs.Step.{out_at}
 use Rattle.events.specs.Meaning.{handed_back, fate_of}
 use Rattle.events.specs.declared.Taken.{Taken}
 use Rattle.events.specs.declared.Taken.TheVariants as taken
-use Rattle.memory.specs.declared.Answer.TheVariants as answer
 use Rattle.memory.specs.View.{out_of}
 use Rattle.memory.specs.Answers.{answer_of, out_word}
 
 -- ---- what came is done, with what became of it, or refused
 pub data Answers (a : Taken) : Type 0 where
-  goes_on : (fate : Fate) → answer_of a ≡ answer.Done → fate_of a ≡ done fate → Answers a
-  stops_at : (r : Refusal) → answer_of a ≡ answer.Refused r → fate_of a ≡ refused r → Answers a
+  goes_on : (fate : Fate) → answer_of a ≡ Ok tt → fate_of a ≡ done fate → Answers a
+  stops_at : (r : Refusal) → answer_of a ≡ Err r → fate_of a ≡ refused r → Answers a
 
 pub answers : (a : Taken) → Answers a
 answers taken.Started = goes_on Started refl refl

@@ -1,15 +1,12 @@
 -- An atom's event on its state and the place in the service list, for each kind alike; and what an answer in place says of it. Definitions only. Assumes nothing.
-use Rattle.std.specs.Prelude.{ℕ, ◌≤◌, ◌≡◌, List, [], map, Float}
+use Rattle.std.specs.Prelude.{ℕ, ◌≤◌, ◌≡◌, List, [], map, Float, Err, Ok, Result, tt, ⊤}
+use Rattle.rules.specs.declared.Refusal.{Refusal}
 use Rattle.rules.specs.Base.{Outcome, refused, done, ◌>>=◌}
 use Rattle.rules.specs.Sizes.{most_jobs}
 use Rattle.rules.specs.Table.{Kind, processor, batcher, stopwatch, coupled}
 use Rattle.rules.specs.Simulation.{State, of_processor, of_batcher, of_stopwatch, as_processor, as_batcher, as_stopwatch}
 use Rattle.rules.specs.Models.{Fate, Kept, Passed, processor_external, processor_internal, batcher_external, batcher_internal, stopwatch_external, stopwatch_internal}
 use Rattle.rules.specs.Step.{Out, out_at}
-use Rattle.memory.specs.declared.Answer.{Answer}
-use Rattle.memory.specs.declared.Answer.TheVariants as answer
-use Rattle.memory.specs.declared.Put.{Put}
-use Rattle.memory.specs.declared.Put.TheVariants as put
 use Rattle.memory.specs.Words.{place_in}
 use Rattle.memory.specs.View.{outs_in, state_in, WordsFit}
 
@@ -44,9 +41,9 @@ pub record Kept-by (k : Kind) (b i : ℕ) (after : List ℕ) (outcome : Outcome 
   pub is : outcome ≡ done (state_in k b after i, place_in after, fate)
   pub words : WordsFit k b after i
 
-abbrev pub Took : Answer → Kind → ℕ → ℕ → List ℕ → Outcome (State × ℕ × Fate) → Type 0
-Took answer.Done k b i after outcome = Kept-by k b i after outcome
-Took (answer.Refused r) k b i after outcome = outcome ≡ refused r
+abbrev pub Took : Result ⊤ Refusal → Kind → ℕ → ℕ → List ℕ → Outcome (State × ℕ × Fate) → Type 0
+Took (Ok tt) k b i after outcome = Kept-by k b i after outcome
+Took (Err r) k b i after outcome = outcome ≡ refused r
 
 -- the n messages put out stand from `at` on
 pub record Put-by (n at : ℕ) (k : Kind) (b i : ℕ) (after : List ℕ) (outcome : Outcome (State × ℕ × List Out)) : Type 0 where
@@ -54,6 +51,6 @@ pub record Put-by (n at : ℕ) (k : Kind) (b i : ℕ) (after : List ℕ) (outcom
   pub is : outcome ≡ done (state_in k b after i, place_in after, outs_in at n after)
   pub words : WordsFit k b after i
 
-abbrev pub Gave : Put → ℕ → Kind → ℕ → ℕ → List ℕ → Outcome (State × ℕ × List Out) → Type 0
-Gave (put.Out n) at k b i after outcome = Put-by n at k b i after outcome
-Gave (put.Refused r) at k b i after outcome = outcome ≡ refused r
+abbrev pub Gave : Result ℕ Refusal → ℕ → Kind → ℕ → ℕ → List ℕ → Outcome (State × ℕ × List Out) → Type 0
+Gave (Ok n) at k b i after outcome = Put-by n at k b i after outcome
+Gave (Err r) at k b i after outcome = outcome ≡ refused r

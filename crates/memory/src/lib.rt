@@ -11,31 +11,17 @@ ghost use Rattle.memory.specs.Answers.{answer_of};
 use events::Taken;
 use rules::Refusal;
 
-// What an external event in place answers.
-#[derive(Clone, Copy)]
-pub enum Answer {
-    Done,
-    Refused(Refusal),
-}
-
-// What an internal event in place answers: so many messages were put out.
-#[derive(Clone, Copy)]
-pub enum Put {
-    Out(usize),
-    Refused(Refusal),
-}
-
 // Whether what came was taken, or the number that it was refused with. What became of it is not told.
-pub fn answer_of(taken: Taken) -> Answer
+pub fn answer_of(taken: Taken) -> Result<(), Refusal>
     ensures { result ≡ answer_of taken }
 {
     match taken {
-        Taken::Started => Answer::Done,
-        Taken::Kept => Answer::Done,
-        Taken::Dropped => Answer::Done,
-        Taken::Marked => Answer::Done,
-        Taken::Asked => Answer::Done,
-        Taken::Refused(refusal) => Answer::Refused(refusal),
+        Taken::Started => Ok(()),
+        Taken::Kept => Ok(()),
+        Taken::Dropped => Ok(()),
+        Taken::Marked => Ok(()),
+        Taken::Asked => Ok(()),
+        Taken::Refused(refusal) => Err(refusal),
     }
 }
 

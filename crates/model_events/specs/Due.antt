@@ -1,5 +1,5 @@
 -- When a model is due: an atom by its own timer, a Coupled with a message parked in it or a component that is due. Assumes nothing.
-use Rattle.std.specs.Prelude.{ℕ, suc, ◌+◌, ◌-◌, ◌≤◌, ◌≡◌, refl, Bool, true, false, List, [], ◌∷◌, map, T, Float, if◌then◌else◌}
+use Rattle.std.specs.Prelude.{ℕ, suc, ◌+◌, ◌-◌, ◌≤◌, ◌≡◌, refl, Bool, true, false, List, [], ◌∷◌, map, T, Float, if◌then◌else◌, None, Some}
 use Rattle.std.proofs.Common.{sym, ◌∙◌, subst, inl, inr, true≢false, arith, add-one}
 use Rattle.std.proofs.Math.Path.{ap}
 use Rattle.std.specs.Float.Ieee.{eq, le}
@@ -15,7 +15,6 @@ use Rattle.rules.specs.Ends.{or_l, or_r, or_split, All, nil, ◌&◌, all_any}
 use Rattle.rules.specs.Depth.{Fine}
 use Rattle.rules.proofs.Least as Least
 use Rattle.rules.proofs.Least.{Fitted, own_timer, at-timer}
-use Rattle.words.specs.declared.Found.TheVariants.{At, Nothing}
 use Rattle.words.specs.Search.{first_from}
 use Rattle.words.specs.SearchLaws.{first-at, first-nothing, search-end}
 
@@ -81,13 +80,13 @@ module _ (t : Table) (ok : Fine t) (states : List State) (g : Fitted t states) w
 
 -- ---- whether some one is, among those that a search finds
 module _ (f test : ℕ → Bool) (row end : ℕ) where
-  pub some-on : (j : ℕ) → first_from test row (end - row) ≡ At j → some_of f (those test (from row (end - row))) ≡ (if f j then true else some_of f (those test (from (j + 1) (end - (j + 1)))))
+  pub some-on : (j : ℕ) → first_from test row (end - row) ≡ Some j → some_of f (those test (from row (end - row))) ≡ (if f j then true else some_of f (those test (from (j + 1) (end - (j + 1)))))
   some-on j h =
       let first = first-at test row (end - row) j h in
       let left : row + (end - row) - suc j ≡ end - suc j = omega arith in
       ap (some_of f) first.3 ∙ rw (left, add-one)
 
-  pub some-none : first_from test row (end - row) ≡ Nothing → some_of f (those test (from row (end - row))) ≡ false
+  pub some-none : first_from test row (end - row) ≡ None → some_of f (those test (from row (end - row))) ≡ false
   some-none h = ap (some_of f) (first-nothing test row (end - row) h)
 
   pub some_end : end ≤ row → some_of f (those test (from row (end - row))) ≡ false

@@ -1,5 +1,5 @@
 -- When a model is due, by the words of its row. Assumes nothing.
-use Rattle.std.specs.Prelude.{ℕ, suc, ◌-◌, ◌≤◌, ◌<◌, ◌≡◌, refl, Bool, true, false, List, length, Float}
+use Rattle.std.specs.Prelude.{ℕ, suc, ◌-◌, ◌≤◌, ◌<◌, ◌≡◌, refl, Bool, true, false, List, length, Float, Option}
 use Rattle.std.proofs.Common.{ap, ◌∙◌, subst, arith}
 use Rattle.std.proofs.lemmas.Bool.{false≢true}
 use Rattle.std.proofs.Math.Nat.{sub-zero}
@@ -12,7 +12,6 @@ use Rattle.rules.specs.Simulation.{State}
 use Rattle.rules.specs.Step.{due}
 use Rattle.rules.specs.Depth.{Fine}
 use Rattle.rules.proofs.Least.{own_timer, due-parked}
-use Rattle.words.specs.declared.Found.{Found}
 use Rattle.words.specs.Search.{first_from}
 use Rattle.words.specs.SearchLaws.{found-to}
 use Rattle.memory.specs.Words.{timer_in, held_in}
@@ -62,5 +61,5 @@ module _ (t : Table) (owner end : ℕ) (whole : end ≡ length t.rows) where
   pub components_from : (i : ℕ) → owner ≡ id_at t i → those (is_one t owner) (from 0 (end - 0)) ≡ components t (id_at t i)
   components_from i e = ap (λ (n : ℕ). those (is_one t owner) (from 0 n)) (sub-zero end) ∙ components-all t owner end i e whole
 
-  pub found-next : (start : ℕ) (r x : Found) → r ≡ first_from (is_one t owner) start (length t.rows - start) → r ≡ x → first_from (is_one t owner) start (end - start) ≡ x
+  pub found-next : (start : ℕ) (r x : Option ℕ) → r ≡ first_from (is_one t owner) start (length t.rows - start) → r ≡ x → first_from (is_one t owner) start (end - start) ≡ x
   found-next start r x h e = found-to (is_one t owner) start end (length t.rows) r x whole h e

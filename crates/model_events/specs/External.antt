@@ -1,5 +1,6 @@
 -- A Coupled's external event: along its external input couplings, by their places in the table. Assumes nothing.
-use Rattle.std.specs.Prelude.{ℕ, suc, ◌≡◌, refl, length, eqb, Float}
+use Rattle.std.specs.Prelude.{ℕ, suc, ◌≡◌, refl, length, eqb, Float, Err, Ok, Result, tt, ⊤}
+use Rattle.rules.specs.declared.Refusal.{Refusal}
 use Rattle.std.proofs.Common.{sym, ◌∙◌}
 use Rattle.std.proofs.Math.Path.{ap}
 use mathlib.Core.List.{List, [], ◌∷◌, ◌++◌}
@@ -11,8 +12,6 @@ use Rattle.selection.specs.Selecting.{is_input}
 use Rattle.selection.specs.Selected.{leads_to, each_map}
 use Rattle.lookup.specs.Inside.{Inside, table_in, couplings_in}
 use Rattle.lookup.specs.InsideLaws.{inputs_in}
-use Rattle.memory.specs.declared.Answer.{Answer}
-use Rattle.memory.specs.declared.Answer.TheVariants as answer
 use Rattle.views.specs.World.{Ready, Moves, Does}
 use Rattle.model_events.specs.Events.{to_target}
 use Rattle.sweeps.specs.Loops.{all_of, stays, does-as}
@@ -27,9 +26,9 @@ module _ (t : Table) (services : List Float) (depth : ℕ) (clock : Float) (owne
   bind_done (done w) = refl
 
   pub target_none : (mem : List ℕ) → Ready t mem → [] ≡ those (λ j. eqb (id_at t j) to.target) (components t owner) → Moves (to_target t services depth clock owner to content) t mem mem
-  target_none mem ready e = does-as t mem mem done (to_target t services depth clock owner to content) answer.Done (λ w. ap (λ (l : List ℕ). each visit l w) (sym e)) (stays t mem ready)
+  target_none mem ready e = does-as t mem mem done (to_target t services depth clock owner to content) (Ok tt) (λ w. ap (λ (l : List ℕ). each visit l w) (sym e)) (stays t mem ready)
 
-  pub target_one : (mem after : List ℕ) (r : Answer) (j : ℕ) → (j ∷ []) ≡ those (λ j. eqb (id_at t j) to.target) (components t owner) → Does r (external t services depth clock j to.port content) t mem after
+  pub target_one : (mem after : List ℕ) (r : Result ⊤ Refusal) (j : ℕ) → (j ∷ []) ≡ those (λ j. eqb (id_at t j) to.target) (components t owner) → Does r (external t services depth clock j to.port content) t mem after
       → Does r (to_target t services depth clock owner to content) t mem after
   target_one mem after r j e d = does-as t mem after (visit j) (to_target t services depth clock owner to content) r (λ w. ap (λ (l : List ℕ). each visit l w) (sym e) ∙ bind_done (visit j w)) d
 
@@ -39,7 +38,7 @@ along_input state services depth clock owner content k = to_target (table_in sta
 
 module _ (state : List ℕ) (inside : Inside state) (services : List Float) (depth : ℕ) (clock : Float) where
   -- what a Coupled does with a message is to hand it along these
-  pub coupled-does : (mem after : List ℕ) (r : Answer) (i port content owner end : ℕ) → kind_at (table_in state) i ≡ coupled → owner ≡ id_at (table_in state) i → end ≡ length (table_in state).couplings
+  pub coupled-does : (mem after : List ℕ) (r : Result ⊤ Refusal) (i port content owner end : ℕ) → kind_at (table_in state) i ≡ coupled → owner ≡ id_at (table_in state) i → end ≡ length (table_in state).couplings
       → Does r (all_of (table_in state) (along_input state services depth clock owner content) (is_input (couplings_in state) owner port) mem end) (table_in state) mem after
       → Does r (external (table_in state) services (suc depth) clock i port content) (table_in state) mem after
   unfolding external
@@ -52,7 +51,7 @@ module _ (state : List ℕ) (inside : Inside state) (services : List Float) (dep
           ∙ each_map (λ (to : Target). to_target (table_in state) services depth clock (id_at (table_in state) i) to content) (leads_to (couplings_in state)) (those (is_input (couplings_in state) (id_at (table_in state) i) port) (from 0 (length (table_in state).couplings))) (noted (came clock i port content Passed) w)
           ∙ rw (o, n)
 
-      logged : (r : Answer) → Does r (all_of (table_in state) (along_input state services depth clock owner content) (is_input (couplings_in state) owner port) mem end) (table_in state) mem after
+      logged : (r : Result ⊤ Refusal) → Does r (all_of (table_in state) (along_input state services depth clock owner content) (is_input (couplings_in state) owner port) mem end) (table_in state) mem after
           → Does r (external (table_in state) services (suc depth) clock i port content) (table_in state) mem after
-      logged answer.Done m = record { ready = m.ready; more = λ log. m.more (log ++ came clock i port content Passed ∷ []); is = λ log. same _ ∙ m.is _ }
-      logged (answer.Refused r) m = λ log. same _ ∙ m _
+      logged (Ok tt) m = record { ready = m.ready; more = λ log. m.more (log ++ came clock i port content Passed ∷ []); is = λ log. same _ ∙ m.is _ }
+      logged (Err r) m = λ log. same _ ∙ m _

@@ -12,10 +12,8 @@ ghost use Rattle.lookup.specs.Inside.{Inside, table_in, couplings_in};
 ghost use Rattle.views.specs.World.{Ready, Frame, Does, states_in};
 ghost use Rattle.model_events.specs.Events.{Scene, Event, to_target};
 
-use memory::Answer;
 use rules::Refusal;
 use table::Kind;
-use words::Found;
 
 // Whether a model's timer is 0: an atom's own; a Coupled's while a message is parked in it, or where that of a component inside is.
 #[cycle(has_due_is_due)]
@@ -46,8 +44,8 @@ fn has_due(state: &[u64], mem: &[u64], depth: usize, row: usize) -> bool
     let mut from = 0;
     while from < end {
         match lookup::next_component(state, from, owner) {
-            Found::Nothing => return false,
-            Found::At(component) => {
+            None => return false,
+            Some(component) => {
                 if is_due(state, mem, depth, component) {
                     return true;
                 }
@@ -67,7 +65,7 @@ fn atom_external(
     row: usize,
     port: u16,
     content: u32,
-) -> Answer
+) -> Result<(), Refusal>
     requires { Event state.now mem.old clock row × (is_coupled (kind_at (table_in state.now) row) ≡ false) }
     ensures does { (depth : ℕ) → Does result (Step.external (table_in state.now) services.now (suc depth) clock row port content) (table_in state.now) mem.old mem.new }
     ensures frame { Frame (table_in state.now) 0 0 mem.old mem.new }
@@ -80,8 +78,8 @@ fn atom_external(
         Kind::Stopwatch(model) => {
             watch_rows::stopwatch_external(mem, row, model, clock, port, content)
         }
-        Kind::Coupled => Answer::Refused(Refusal::BadState),
-        Kind::Broken => Answer::Refused(Refusal::BadState),
+        Kind::Coupled => Err(Refusal::BadState),
+        Kind::Broken => Err(Refusal::BadState),
     }
 }
 
@@ -96,13 +94,13 @@ pub fn external(
     row: usize,
     port: u16,
     content: u32,
-) -> Answer
+) -> Result<(), Refusal>
     requires { Event state.now mem.old clock row × Deep (table_in state.now) depth row }
     ensures does { Does result (Step.external (table_in state.now) services.now depth clock row port content) (table_in state.now) mem.old mem.new }
     ensures frame { Frame (table_in state.now) 0 0 mem.old mem.new }
 {
     if depth == 0 {
-        return Answer::Refused(Refusal::BadState);
+        return Err(Refusal::BadState);
     }
     if lookup::is_coupled(state, row) {
         return to_components(state, services, mem, depth - 1, clock, row, port, content);
@@ -121,7 +119,7 @@ fn to_components(
     row: usize,
     port: u16,
     content: u32,
-) -> Answer
+) -> Result<(), Refusal>
     requires { Event state.now mem.old clock row × (kind_at (table_in state.now) row ≡ coupled) × All (Deep (table_in state.now) depth) (components (table_in state.now) (id_at (table_in state.now) row)) }
     ensures does { Does result (Step.external (table_in state.now) services.now (suc depth) clock row port content) (table_in state.now) mem.old mem.new }
     ensures frame { Frame (table_in state.now) 0 0 mem.old mem.new }
@@ -131,17 +129,17 @@ fn to_components(
     let mut from = 0;
     while from < end {
         match lookup::next_input(state, from, owner, port as u64) {
-            Found::Nothing => return Answer::Done,
-            Found::At(coupling) => {
+            None => return Ok(()),
+            Some(coupling) => {
                 match to_target(state, services, mem, depth, clock, owner, coupling, content) {
-                    Answer::Done => {}
-                    Answer::Refused(refusal) => return Answer::Refused(refusal),
+                    Ok(()) => {}
+                    Err(refusal) => return Err(refusal),
                 }
                 from = coupling + 1;
             }
         }
     }
-    Answer::Done
+    Ok(())
 }
 
 // Along one coupling, to the component that it names.
@@ -155,15 +153,15 @@ fn to_target(
     owner: u64,
     coupling: usize,
     content: u32,
-) -> Answer
+) -> Result<(), Refusal>
     requires { Scene state.now mem.old clock × (coupling < length (table_in state.now).couplings) × All (Deep (table_in state.now) depth) (components (table_in state.now) owner) }
     ensures does { Does result (to_target (table_in state.now) services.now depth clock owner (leads_to (couplings_in state.now) coupling) content) (table_in state.now) mem.old mem.new }
     ensures frame { Frame (table_in state.now) 0 0 mem.old mem.new }
 {
     let to = lookup::coupling_target(state, coupling);
     match lookup::component_of(state, owner, to.id) {
-        Found::Nothing => Answer::Done,
-        Found::At(component) => external(
+        None => Ok(()),
+        Some(component) => external(
             state,
             services,
             mem,

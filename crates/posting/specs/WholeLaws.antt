@@ -1,5 +1,5 @@
 -- The laws of a whole state: its parts laid one after the other; and what `post` and `put` answer and leave. Assumes nothing.
-use Rattle.std.specs.Prelude.{ℕ, ◌+◌, ◌-◌, ◌*◌, ◌/◌, ◌≤◌, true, false, length, get_or, take, drop, leb}
+use Rattle.std.specs.Prelude.{ℕ, ◌+◌, ◌-◌, ◌*◌, ◌/◌, ◌≤◌, true, false, length, get_or, take, drop, leb, Err, Ok, Result, tt, ⊤}
 use Rattle.std.proofs.Math.Path.{◌≡◌, refl, sym, ap}
 use Rattle.std.proofs.Common.{◌∙◌, subst, add-zero, arith, length-append, length-drop, take_at, get_or-drop, drop-drop}
 use mathlib.Core.List.{List, [], ◌∷◌, ◌++◌, append-nil, append_assoc}
@@ -27,8 +27,6 @@ use Rattle.table.specs.declared.Verdict.TheVariants as verdict
 use Rattle.table.specs.Verdicts.{verdict_of}
 use Rattle.table.specs.Passed.{models-long, connectors-long, couplings-long, sizes}
 use Rattle.words.specs.Laying.{zeros-long}
-use Rattle.memory.specs.declared.Answer.{Answer}
-use Rattle.memory.specs.declared.Answer.TheVariants as answer
 use Rattle.memory.specs.Words.{head_at, word_at, place_in}
 use Rattle.lookup.specs.Inside.{tail_at, table_in}
 use Rattle.views.specs.World.{end_of}
@@ -129,12 +127,12 @@ module _ (models connectors couplings : List ℕ) where
         omega arith
 
 -- ---- intake, as an answer
-abbrev answer_for : Verdict → Answer
-answer_for verdict.TooLarge = answer.Refused TooLarge
-answer_for (verdict.BadRow k) = answer.Refused BadRow
-answer_for (verdict.BadConnector k) = answer.Refused BadCoupling
-answer_for (verdict.BadCoupling k) = answer.Refused BadCoupling
-answer_for verdict.Passed = answer.Done
+abbrev answer_for : Verdict → Result ⊤ Refusal
+answer_for verdict.TooLarge = Err TooLarge
+answer_for (verdict.BadRow k) = Err BadRow
+answer_for (verdict.BadConnector k) = Err BadCoupling
+answer_for (verdict.BadCoupling k) = Err BadCoupling
+answer_for verdict.Passed = Ok tt
 
 answer-for : (v : Intake.Verdict) → answer_for (verdict_of v) ≡ answered (taken_in v)
 answer-for Intake.too_large = refl
@@ -147,13 +145,13 @@ pub answer-read : (v : Intake.Verdict) (read known : Verdict) → read ≡ verdi
 answer-read v read known e f = ap answer_for (sym f ∙ e) ∙ answer-for v
 
 -- what is not refused has passed
-pub has-passed : (p : Posted) → answered (taken_in (intake p)) ≡ answer.Done → intake p ≡ passed (whole_table p)
+pub has-passed : (p : Posted) → answered (taken_in (intake p)) ≡ Ok tt → intake p ≡ passed (whole_table p)
 has-passed p = go (intake p) refl
   where
-    no : (r : Refusal) → answer.Refused r ≡ answer.Done → ⊥
+    no : (r : Refusal) → Err r ≡ Ok tt → ⊥
     no r e = let z : ◌≡◌ {A = ℕ} 0 1 = cc in omega arith
 
-    go : (v : Intake.Verdict) → intake p ≡ v → answered (taken_in v) ≡ answer.Done → intake p ≡ passed (whole_table p)
+    go : (v : Intake.Verdict) → intake p ≡ v → answered (taken_in v) ≡ Ok tt → intake p ≡ passed (whole_table p)
     go Intake.too_large e d = absurd (no TooLarge d)
     go (Intake.bad_row k) e d = absurd (no BadRow d)
     go (Intake.bad_connector k) e d = absurd (no BadCoupling d)
@@ -169,11 +167,11 @@ module _ (models connectors couplings state : List ℕ) where
   unfolding post_in
   post-short h = rw h refl
 
-  pub post-refused : (r : Refusal) → leb needed (length state) ≡ true → answered (taken_in (intake (lent models connectors couplings))) ≡ answer.Refused r → post_in models connectors couplings state ≡ refused r
+  pub post-refused : (r : Refusal) → leb needed (length state) ≡ true → answered (taken_in (intake (lent models connectors couplings))) ≡ Err r → post_in models connectors couplings state ≡ refused r
   unfolding post_in post
   post-refused r h e = rw h (go (taken_in (intake (lent models connectors couplings))) e)
     where
-      go : (o : Outcome Table) → answered o ≡ answer.Refused r → (o >>= λ t. done (begun t)) ≡ refused r
+      go : (o : Outcome Table) → answered o ≡ Err r → (o >>= λ t. done (begun t)) ≡ refused r
       go (refused s) e = cc
       go (done t) e = let z : ◌≡◌ {A = ℕ} 0 1 = cc in absurd (omega arith)
 

@@ -12,7 +12,6 @@ ghost use Rattle.storing.specs.State.{timer_word, own_width, heads, zeros, over,
 ghost use Rattle.storing.specs.Lent.{answered, post_in, left_anew};
 ghost use Rattle.posting.specs.Laying.{laid, numbered, new_from, new_rows, widths, fresh_words, table_words, front_words, Passes, Room, Fits, renewed};
 
-use memory::Answer;
 use rules::Refusal;
 use table::Verdict;
 
@@ -148,33 +147,33 @@ fn lay(
 }
 
 // What intake says of a table, as an answer: done, 1, 2 or 3.
-pub fn judged(models: &[u64], connectors: &[u64], couplings: &[u64]) -> Answer
+pub fn judged(models: &[u64], connectors: &[u64], couplings: &[u64]) -> Result<(), Refusal>
     ensures { result ≡ answered (taken_in (intake (lent models.now connectors.now couplings.now))) }
 {
     match table::intake(models, connectors, couplings) {
-        Verdict::TooLarge => Answer::Refused(Refusal::TooLarge),
-        Verdict::BadRow(_) => Answer::Refused(Refusal::BadRow),
-        Verdict::BadConnector(_) => Answer::Refused(Refusal::BadCoupling),
-        Verdict::BadCoupling(_) => Answer::Refused(Refusal::BadCoupling),
-        Verdict::Passed => Answer::Done,
+        Verdict::TooLarge => Err(Refusal::TooLarge),
+        Verdict::BadRow(_) => Err(Refusal::BadRow),
+        Verdict::BadConnector(_) => Err(Refusal::BadCoupling),
+        Verdict::BadCoupling(_) => Err(Refusal::BadCoupling),
+        Verdict::Passed => Ok(()),
     }
 }
 
 // `post`: a new simulation of the table into the lent state. 20 where the buffer is too short for it, then table intake.
-pub fn post(models: &[u64], connectors: &[u64], couplings: &[u64], state: &mut [u64]) -> Answer
+pub fn post(models: &[u64], connectors: &[u64], couplings: &[u64], state: &mut [u64]) -> Result<(), Refusal>
     ensures answers { result ≡ answered (post_in models.now connectors.now couplings.now state.old) }
     ensures leaves { state.new ≡ left_anew models.now connectors.now couplings.now state.old (post_in models.now connectors.now couplings.now state.old) }
 {
     let needed = storing::state_words(models.len(), connectors.len(), couplings.len());
     if state.len() < needed {
-        return Answer::Refused(Refusal::BadState);
+        return Err(Refusal::BadState);
     }
     match judged(models, connectors, couplings) {
-        Answer::Refused(refusal) => return Answer::Refused(refusal),
-        Answer::Done => {}
+        Err(refusal) => return Err(refusal),
+        Ok(()) => {}
     }
     lay(state, models, connectors, couplings, 0, 0, 0);
-    Answer::Done
+    Ok(())
 }
 
 // Where the active messages of a lent state begin.

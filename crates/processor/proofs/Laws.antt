@@ -1,4 +1,5 @@
 -- What the rules say of a processor's events, case by case, by the number of jobs held. Assumes nothing.
+use Rattle.std.specs.Prelude.{Err, Ok}
 use mathlib.Core.Path.{◌≡◌, refl, sym, ap, ◌∙◌}
 use mathlib.Core.Bool.{not, ◌&&◌}
 use mathlib.Core.List.{List, [], ◌∷◌}
@@ -24,7 +25,6 @@ use Rattle.rules.specs.declared.ProcessorPhase.TheVariants as working
 use Rattle.events.specs.declared.Taken.TheVariants as taken
 use Rattle.processor.specs.declared.ProcessorState.{ProcessorState}
 use Rattle.processor.specs.declared.ProcessorTaken.{ProcessorTaken}
-use Rattle.events.specs.declared.Gone.TheVariants as gone
 use Rattle.processor.specs.Processing.{processor_of, fresh, unchanged, resting, Took, Went}
 use Rattle.events.specs.Held.{none-held, some-held, one_more}
 
@@ -81,16 +81,16 @@ module _ (services : List Float) (place : ℕ) (s : ProcessorState) (queue : Lis
   pub released-one : (s.held ≡ 0 → ⊥) → Went s place queue (resting (s.held - 1) place 1) (processor_internal_in working.Active services (processor_of s queue) place)
   released-one z = record { tells = refl; holds = simp length-drop (omega arith); within = omega arith }
 
-  pub resumed-none : s.held ≡ 0 → Went s place queue (record { next = fresh; place = place; answer = gone.Out 0 }) (processor_internal_in working.Passive services (processor_of s queue) place)
+  pub resumed-none : s.held ≡ 0 → Went s place queue (record { next = fresh; place = place; answer = Ok 0 }) (processor_internal_in working.Passive services (processor_of s queue) place)
   resumed-none z =
       let q : queue ≡ [] = none-held queue (e ∙ z) in
       rw q (record { tells = refl; holds = refl; within = omega arith })
 
-  pub resumed-one : (s.held ≡ 0 → ⊥) → (x : Float) (next : ℕ) → done (x, next) ≡ service services place → Went s place queue (record { next = record { phase = working.Active; timer = x; held = s.held }; place = next; answer = gone.Out 0 }) (processor_internal_in working.Passive services (processor_of s queue) place)
+  pub resumed-one : (s.held ≡ 0 → ⊥) → (x : Float) (next : ℕ) → done (x, next) ≡ service services place → Went s place queue (record { next = record { phase = working.Active; timer = x; held = s.held }; place = next; answer = Ok 0 }) (processor_internal_in working.Passive services (processor_of s queue) place)
   resumed-one z x next h =
       record { tells = rw (some-held queue (λ l. z (sym e ∙ l)), ← h); holds = e; within = omega arith }
 
-  pub resumed-refused : (s.held ≡ 0 → ⊥) → (r : Refusal) → refused r ≡ service services place → Went s place queue (record { next = s; place = place; answer = gone.Refused r }) (processor_internal_in working.Passive services (processor_of s queue) place)
+  pub resumed-refused : (s.held ≡ 0 → ⊥) → (r : Refusal) → refused r ≡ service services place → Went s place queue (record { next = s; place = place; answer = Err r }) (processor_internal_in working.Passive services (processor_of s queue) place)
   resumed-refused z r h =
       record { tells = rw (some-held queue (λ l. z (sym e ∙ l)), ← h); holds = e; within = omega arith }
 

@@ -1,12 +1,11 @@
 -- What the processor's events answer, by the rules. Definitions only. Assumes nothing.
-use Rattle.std.specs.Prelude.{ℕ, ◌≤◌, ◌≡◌, List, length, drop}
+use Rattle.std.specs.Prelude.{ℕ, ◌≤◌, ◌≡◌, List, length, drop, Ok}
 use Rattle.rules.specs.Base.{Outcome}
 use Rattle.times.specs.Time.{instant, never}
 use Rattle.rules.specs.declared.ProcessorPhase.TheVariants as working
 use Rattle.rules.specs.Simulation as Simulation
 use Rattle.rules.specs.Models.{Fate}
 use Rattle.events.specs.declared.Taken.{Taken}
-use Rattle.events.specs.declared.Gone.TheVariants as gone
 use Rattle.processor.specs.declared.ProcessorState.{ProcessorState}
 use Rattle.processor.specs.declared.ProcessorTaken.{ProcessorTaken}
 use Rattle.processor.specs.declared.ProcessorGone.{ProcessorGone}
@@ -26,7 +25,7 @@ unchanged s place answer = record { next = s; place = place; answer = answer }
 
 -- jobs went out: Passive, timer 0
 abbrev pub resting : ℕ → ℕ → ℕ → ProcessorGone
-resting held place out = record { next = record { phase = working.Passive; timer = instant; held = held }; place = place; answer = gone.Out out }
+resting held place out = record { next = record { phase = working.Passive; timer = instant; held = held }; place = place; answer = Ok out }
 
 -- an external event's answer is the rules' outcome
 pub record Took (s : ProcessorState) (place : ℕ) (queue : List ℕ) (job : ℕ) (r : ProcessorTaken) (outcome : Outcome (Simulation.ProcessorState × ℕ × Fate)) : Type 0 where

@@ -1,11 +1,11 @@
 -- Each contract of `processor` is met by one answer alone. Assumes nothing.
-use Rattle.std.specs.Prelude.{ℕ, ◌≡◌, refl, List, [], length, drop}
+use Rattle.std.specs.Prelude.{ℕ, ◌≡◌, refl, List, [], length, drop, Result}
+use Rattle.rules.specs.declared.Refusal.{Refusal}
 use Rattle.std.proofs.Common.{sym, ap, ◌∙◌}
 use Rattle.rules.specs.Base.{Outcome}
 use Rattle.rules.specs.Simulation as Simulation
 use Rattle.rules.specs.Models.{Fate}
 use Rattle.events.specs.declared.Taken.{Taken}
-use Rattle.events.specs.declared.Gone.{Gone}
 use Rattle.processor.specs.declared.ProcessorState.{ProcessorState}
 use Rattle.processor.specs.declared.ProcessorTaken.{ProcessorTaken}
 use Rattle.processor.specs.declared.ProcessorGone.{ProcessorGone}
@@ -29,7 +29,7 @@ module _ (s : ProcessorState) (place : ℕ) (queue : List ℕ) where
   processor-went-one o a b p q =
       let e = p.tells ∙ sym q.tells in
       let n : a.answer ≡ b.answer = same-gone queue a.answer b.answer p.within q.within (ap (λ (x : (Simulation.ProcessorState × ℕ) × Outcome (List ℕ)). x.1) e) in
-      let h : a.next.held ≡ b.next.held = sym p.holds ∙ ap (λ (x : Gone). length (drop (count_of x) queue)) n ∙ q.holds in
+      let h : a.next.held ≡ b.next.held = sym p.holds ∙ ap (λ (x : Result ℕ Refusal). length (drop (count_of x) queue)) n ∙ q.holds in
       let f : a.next.phase ≡ b.next.phase = ap (λ (x : (Simulation.ProcessorState × ℕ) × Outcome (List ℕ)). x.0.0.phase) e in
       let t : a.next.timer ≡ b.next.timer = ap (λ (x : (Simulation.ProcessorState × ℕ) × Outcome (List ℕ)). x.0.0.timer) e in
       let l : a.place ≡ b.place = ap (λ (x : (Simulation.ProcessorState × ℕ) × Outcome (List ℕ)). x.0.1) e in

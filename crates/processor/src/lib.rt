@@ -11,7 +11,7 @@ ghost use Rattle.rules.specs.Models as Models;
 ghost use Rattle.rules.specs.Valid as Valid;
 ghost use Rattle.processor.specs.Processing.{processor_of, fresh, unchanged, resting, Took, Went};
 
-use events::{Gone, Service, Taken};
+use events::{Service, Taken};
 use rules::{Processor, ProcessorPhase, Refusal};
 
 #[derive(Clone, Copy)]
@@ -34,7 +34,7 @@ pub struct ProcessorTaken {
 pub struct ProcessorGone {
     pub next: ProcessorState,
     pub place: u64,
-    pub answer: Gone,
+    pub answer: Result<u64, Refusal>,
 }
 
 impl ProcessorState {
@@ -174,7 +174,7 @@ impl ProcessorState {
                 held,
             },
             place,
-            answer: Gone::Out(out),
+            answer: Ok(out),
         }
     }
 
@@ -186,7 +186,7 @@ impl ProcessorState {
             return ProcessorGone {
                 next: ProcessorState::new(),
                 place,
-                answer: Gone::Out(0),
+                answer: Ok(0),
             };
         }
         match events::service_time(services, place) {
@@ -197,12 +197,12 @@ impl ProcessorState {
                     held: self.held,
                 },
                 place: next,
-                answer: Gone::Out(0),
+                answer: Ok(0),
             },
             Service::Refused(refusal) => ProcessorGone {
                 next: self,
                 place,
-                answer: Gone::Refused(refusal),
+                answer: Err(refusal),
             },
         }
     }
@@ -227,7 +227,7 @@ impl ProcessorState {
         ProcessorGone {
             next: self,
             place,
-            answer: Gone::Refused(Refusal::BadState),
+            answer: Err(Refusal::BadState),
         }
     }
 }

@@ -1,5 +1,5 @@
 -- From what the processor's and the batcher's rules answer, and from what is written, to what an event in place says of the rules' outcome. Assumes nothing.
-use Rattle.std.specs.Prelude.{if◌then◌else◌}
+use Rattle.std.specs.Prelude.{if◌then◌else◌, Err, Ok, Result, tt}
 use Prim.Native.Nat.{ℕ, ◌+◌, ◌≤◌}
 use mathlib.Core.Path.{◌≡◌, refl, ap, ◌∙◌}
 use mathlib.Core.Bool.{not}
@@ -25,13 +25,10 @@ use Rattle.rules.specs.Ends.{All, nil, ◌&◌, parts, Ends, stops, goes, ends-i
 use Rattle.rules.specs.Kept.{keep-more}
 use Rattle.events.specs.Meaning.{handed_back, placed, fate_of, queue_after}
 use Rattle.events.specs.declared.Taken.{Taken}
-use Rattle.events.specs.declared.Gone.{Gone}
-use Rattle.events.specs.declared.Gone.TheVariants as gone
 use Rattle.processor.specs.declared.ProcessorState.{ProcessorState}
 use Rattle.processor.specs.Processing as Processing
 use Rattle.batcher.specs.declared.BatcherState.{BatcherState}
 use Rattle.batcher.specs.Batching as Batching
-use Rattle.memory.specs.declared.Answer.TheVariants as answer
 use Rattle.memory.specs.Words.{place_in, phase_in, held_in}
 use Rattle.memory.specs.View.{Row, WordsFit, state_in, processor_in, batcher_in, working_of, working_number, batching_of, batching_number}
 use Rattle.memory.specs.Atoms.{atom_external, atom_internal, Kept-by, Took, Gave}
@@ -177,7 +174,7 @@ module _ (p : Processor) (services : List Float) (b i : ℕ) (mem : List ℕ) (n
           let o : rule ≡ refused r = unplaced-refused rule r (back-refused (placed rule) (processor_in b mem i, place_in mem) (Processing.processor_of next q, place) r (rw is at t.tells)) in
           rw o
 
-      pub processor-took : Told → (answer_of a ≡ answer.Done → Written b i (processor_head next place) (queue_after a (jobs_at b mem i) content) after)
+      pub processor-took : Told → (answer_of a ≡ Ok tt → Written b i (processor_head next place) (queue_after a (jobs_at b mem i) content) after)
           → Took (answer_of a) (processor p) b i after (atom_external (processor p) services clock port content (state_in (processor p) b mem i) (place_in mem))
       processor-took t writes = elim (answers a) [
         | goes_on fate e is ↦ rw e (processor-done fate is t (writes e))
@@ -189,10 +186,10 @@ module _ (p : Processor) (services : List Float) (b i : ℕ) (mem : List ℕ) (n
     abbrev gone-rule : Outcome (Simulation.ProcessorState × ℕ × List ℕ)
     gone-rule = processor_internal services (processor_in b mem i) (place_in mem)
 
-    pub processor-gave : (g : Gone) → Processing.Went (processor_at mem i) (place_in mem) (jobs_at b mem i) (record { next = next; place = place; answer = g }) gone-rule → length (jobs_at b mem i) ≤ 64
-        → ((n : ℕ) → g ≡ gone.Out n → Wrote n at p.output i b (processor_head next place) (jobs_at b mem i) after)
+    pub processor-gave : (g : Result ℕ Refusal) → Processing.Went (processor_at mem i) (place_in mem) (jobs_at b mem i) (record { next = next; place = place; answer = g }) gone-rule → length (jobs_at b mem i) ≤ 64
+        → ((n : ℕ) → g ≡ Ok n → Wrote n at p.output i b (processor_head next place) (jobs_at b mem i) after)
         → Gave (put_of g) at (processor p) b i after (atom_internal (processor p) services (state_in (processor p) b mem i) (place_in mem))
-    processor-gave (gone.Out n) t few writes =
+    processor-gave (Ok n) t few writes =
         let jobs = jobs_at b mem i in
         let w = writes n refl in
         let k = t.within in
@@ -203,7 +200,7 @@ module _ (p : Processor) (services : List Float) (b i : ℕ) (mem : List ℕ) (n
           is = rw (o, processor-is b i place (drop n jobs) after next w.row, w.row.place, w.outs);
           words = processor-words b i place (drop n jobs) after p next w.row;
         }
-    processor-gave (gone.Refused r) t few writes =
+    processor-gave (Err r) t few writes =
         let jobs = jobs_at b mem i in
         let o : gone-rule ≡ refused r = unplaced-refused gone-rule r (back-refused (placed gone-rule) (processor_in b mem i, place_in mem) (Processing.processor_of next jobs, place) r t.tells) in
         rw o
@@ -257,7 +254,7 @@ module _ (m : Batcher) (b i : ℕ) (mem : List ℕ) (next : BatcherState) where
           let o : kept_rule ≡ refused r = kept-refused kept_rule r (back-refused (with-fate kept_rule) (batcher_in b mem i) (Batching.batcher_of next q) r (rw is at t.tells)) in
           rw o
 
-      pub batcher-took : ToldKept → (answer_of a ≡ answer.Done → Written b i (batcher_head next (place_in mem)) (queue_after a (jobs_at b mem i) content) after)
+      pub batcher-took : ToldKept → (answer_of a ≡ Ok tt → Written b i (batcher_head next (place_in mem)) (queue_after a (jobs_at b mem i) content) after)
           → Took (answer_of a) (batcher m) b i after (atom_external (batcher m) services clock port content (state_in (batcher m) b mem i) (place_in mem))
       batcher-took t writes = elim (answers a) [
         | goes_on fate e is ↦ rw e (batcher-done fate is t (writes e))
@@ -266,10 +263,10 @@ module _ (m : Batcher) (b i : ℕ) (mem : List ℕ) (next : BatcherState) where
 
   -- what it puts out
   module _ (services : List Float) (at : ℕ) (after : List ℕ) where
-    pub batcher-gave : (g : Gone) → Batching.Went (batcher_at mem i) (jobs_at b mem i) (record { next = next; answer = g }) (done (batcher_internal m (batcher_in b mem i))) → length (jobs_at b mem i) ≤ 64
-        → ((n : ℕ) → g ≡ gone.Out n → Wrote n at m.output i b (batcher_head next (place_in mem)) (jobs_at b mem i) after)
+    pub batcher-gave : (g : Result ℕ Refusal) → Batching.Went (batcher_at mem i) (jobs_at b mem i) (record { next = next; answer = g }) (done (batcher_internal m (batcher_in b mem i))) → length (jobs_at b mem i) ≤ 64
+        → ((n : ℕ) → g ≡ Ok n → Wrote n at m.output i b (batcher_head next (place_in mem)) (jobs_at b mem i) after)
         → Gave (put_of g) at (batcher m) b i after (atom_internal (batcher m) services (state_in (batcher m) b mem i) (place_in mem))
-    batcher-gave (gone.Out n) t few writes =
+    batcher-gave (Ok n) t few writes =
         let jobs = jobs_at b mem i in
         let w = writes n refl in
         let k = t.within in
@@ -280,7 +277,7 @@ module _ (m : Batcher) (b i : ℕ) (mem : List ℕ) (next : BatcherState) where
           is = rw (o, batcher-is b i (place_in mem) (drop n jobs) after next w.row, w.row.place, w.outs);
           words = batcher-words b i (place_in mem) (drop n jobs) after m next w.row;
         }
-    batcher-gave (gone.Refused r) t few writes =
+    batcher-gave (Err r) t few writes =
         let d = back-refused (done (batcher_internal m (batcher_in b mem i))) (batcher_in b mem i) (Batching.batcher_of next (jobs_at b mem i)) r t.tells in
         let z : ◌≡◌ {A = ℕ} 0 1 = cc in
         absurd (omega arith)

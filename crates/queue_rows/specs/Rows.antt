@@ -1,5 +1,6 @@
 -- A row that holds a queue, by its words: what an event reads of it, and what it leaves there. Definitions only. Assumes nothing.
-use Rattle.std.specs.Prelude.{ℕ, ◌+◌, ◌≤◌, ◌≡◌, Bool, true, false, List, map, length, set, take, drop, T, if◌then◌else◌}
+use Rattle.std.specs.Prelude.{ℕ, ◌+◌, ◌≤◌, ◌≡◌, Bool, true, false, List, map, length, set, take, drop, T, if◌then◌else◌, Err, Ok, Result}
+use Rattle.rules.specs.declared.Refusal.{Refusal}
 use Rattle.std.specs.Float.{binary64}
 use Rattle.std.specs.Float.Ieee.{of_bits, to_bits}
 use Rattle.times.specs.Time.{is_timer}
@@ -9,10 +10,6 @@ use Rattle.rules.specs.Step.{out_at}
 use Rattle.words.specs.Queue.{queue_in, unused_clear, moved_up}
 use Rattle.events.specs.declared.Taken.{Taken}
 use Rattle.events.specs.declared.Taken.TheVariants as taken
-use Rattle.events.specs.declared.Gone.{Gone}
-use Rattle.events.specs.declared.Gone.TheVariants as gone
-use Rattle.memory.specs.declared.Put.{Put}
-use Rattle.memory.specs.declared.Put.TheVariants as put
 use Rattle.memory.specs.Answers.{out_word}
 use Rattle.memory.specs.Words.{place_at, head_at, place_in, phase_in, timer_in, held_in, headed, own_in, replaced}
 use Rattle.memory.specs.View.{outs_in, working_of, working_number, batching_of, batching_number}
@@ -68,9 +65,9 @@ abbrev pub went_words : (b i : ℕ) → Head → (at port : ℕ) → List ℕ �
 went_words b i h at port mem n = with_head i h (left_words b i at port mem n)
 
 -- ---- what an internal event answers
-abbrev pub put_of : Gone → Put
-put_of (gone.Out n) = put.Out n
-put_of (gone.Refused r) = put.Refused r
+abbrev pub put_of : Result ℕ Refusal → Result ℕ Refusal
+put_of (Ok n) = Ok n
+put_of (Err r) = Err r
 
 -- ---- the jobs of the row i, whose own words begin at b
 abbrev pub jobs_at : ℕ → List ℕ → ℕ → List ℕ

@@ -1,7 +1,7 @@
 // The processor's and the batcher's events in place: the row's state is read from its words, and written there. Layout: docs/LAYOUT.md.
 #![tactic(auto)]
 
-ghost use Rattle.std.specs.Prelude.{◌≡◌, List, ℕ, ◌+◌, ◌≤◌, length, take, drop, T, Float};
+ghost use Rattle.std.specs.Prelude.{◌≡◌, List, ℕ, ◌+◌, ◌≤◌, length, take, drop, T, Float, Ok, tt};
 ghost use Rattle.std.specs.Float.{binary64};
 ghost use Rattle.std.specs.Float.Ieee.{of_bits};
 ghost use Rattle.times.specs.Time.{is_timer};
@@ -10,8 +10,6 @@ ghost use Rattle.rules.specs.Sizes.{is_content};
 ghost use Rattle.rules.specs.Table as Table;
 ghost use Rattle.words.specs.Queue.{moved_up};
 ghost use Rattle.events.specs.Meaning.{queue_after, count_of};
-ghost use Rattle.events.specs.declared.Gone.TheVariants as went;
-ghost use Rattle.memory.specs.declared.Answer.TheVariants as answer;
 ghost use Rattle.memory.specs.Words.{head_at, timer_in, begin_in, place_in, own_in, replaced, Own};
 ghost use Rattle.memory.specs.View.{Row, state_in};
 ghost use Rattle.memory.specs.Atoms.{atom_external, atom_internal, Took, Gave};
@@ -19,8 +17,7 @@ ghost use Rattle.memory.specs.Answers.{answer_of};
 ghost use Rattle.queue_rows.specs.Rows.{processor_at, batcher_at, processor_head, batcher_head, with_head, joins, own_after, put_words, put_of, jobs_at, Queued, Written, Wrote};
 
 use batcher::BatcherState;
-use events::{Gone, Taken};
-use memory::{Answer, Put};
+use events::Taken;
 use processor::ProcessorState;
 use rules::{Batcher, BatcherPhase, Processor, ProcessorPhase};
 
@@ -190,40 +187,40 @@ fn put_out(mem: &mut [u64], begin: usize, gone: u64, port: u16, at: usize)
 }
 
 // What came of an external event is written, and nothing where it is refused.
-fn write_taken(mem: &mut [u64], row: usize, next: Head, taken: Taken, content: u32) -> Answer
+fn write_taken(mem: &mut [u64], row: usize, next: Head, taken: Taken, content: u32) -> Result<(), Refusal>
     requires { Queued (begin_in mem.old row) mem.old row × (length (queue_after taken (jobs_at (begin_in mem.old row) mem.old row) content) ≡ next.held) × (next.held ≤ 64) }
     ensures answers { result ≡ answer_of taken }
-    ensures writes { answer_of taken ≡ answer.Done → Written (begin_in mem.old row) row next (queue_after taken (jobs_at (begin_in mem.old row) mem.old row) content) mem.new }
+    ensures writes { answer_of taken ≡ Ok tt → Written (begin_in mem.old row) row next (queue_after taken (jobs_at (begin_in mem.old row) mem.old row) content) mem.new }
     ensures owns { Own row (begin_in mem.old row) 64 0 0 mem.old mem.new }
 {
     match memory::answer_of(taken) {
-        Answer::Refused(refusal) => Answer::Refused(refusal),
-        Answer::Done => {
+        Err(refusal) => Err(refusal),
+        Ok(()) => {
             let begin = memory::begin_at(mem, row);
             let held = memory::held_at(mem, row);
             keep(mem, begin, held, taken, content);
             store(mem, row, next);
-            Answer::Done
+            Ok(())
         }
     }
 }
 
 // What came of an internal event is written, and nothing where it is refused.
-fn write_gone(mem: &mut [u64], row: usize, next: Head, gone: Gone, port: u16, at: usize) -> Put
+fn write_gone(mem: &mut [u64], row: usize, next: Head, gone: Result<u64, Refusal>, port: u16, at: usize) -> Result<usize, Refusal>
     requires { Queued (begin_in mem.old row) mem.old row × (begin_in mem.old row + 64 ≤ at) × (at + 64 ≤ length mem.old) × (count_of gone ≤ length (jobs_at (begin_in mem.old row) mem.old row)) × (length (drop (count_of gone) (jobs_at (begin_in mem.old row) mem.old row)) ≡ next.held) }
     ensures answers { result ≡ put_of gone }
-    ensures writes { (n : ℕ) → gone ≡ went.Out n → Wrote n at port row (begin_in mem.old row) next (jobs_at (begin_in mem.old row) mem.old row) mem.new }
+    ensures writes { (n : ℕ) → gone ≡ Ok n → Wrote n at port row (begin_in mem.old row) next (jobs_at (begin_in mem.old row) mem.old row) mem.new }
     ensures owns { Own row (begin_in mem.old row) 64 at (at + 64) mem.old mem.new }
 {
     match gone {
-        Gone::Refused(refusal) => Put::Refused(refusal),
-        Gone::Out(count) => {
+        Err(refusal) => Err(refusal),
+        Ok(count) => {
             let begin = memory::begin_at(mem, row);
             let held = memory::held_at(mem, row);
             put_out(mem, begin, count, port, at);
             let_go(mem, begin, held, count);
             store(mem, row, next);
-            Put::Out(count as usize)
+            Ok(count as usize)
         }
     }
 }
@@ -236,7 +233,7 @@ pub fn processor_external(
     model: Processor,
     port: u16,
     content: u32,
-) -> Answer
+) -> Result<(), Refusal>
     requires { Row (Table.processor model) (begin_in mem.old row) mem.old row }
     ensures takes { (clock : Float) → Took result (Table.processor model) (begin_in mem.old row) row mem.new (atom_external (Table.processor model) services.now clock port content (state_in (Table.processor model) (begin_in mem.old row) mem.old row) (place_in mem.old)) }
     ensures owns { Own row (begin_in mem.old row) 64 0 0 mem.old mem.new }
@@ -256,7 +253,7 @@ pub fn processor_internal(
     row: usize,
     model: Processor,
     at: usize,
-) -> Put
+) -> Result<usize, Refusal>
     requires { Row (Table.processor model) (begin_in mem.old row) mem.old row × (begin_in mem.old row + 64 ≤ at) × (at + 64 ≤ length mem.old) }
     ensures gives { Gave result at (Table.processor model) (begin_in mem.old row) row mem.new (atom_internal (Table.processor model) services.now (state_in (Table.processor model) (begin_in mem.old row) mem.old row) (place_in mem.old)) }
     ensures owns { Own row (begin_in mem.old row) 64 at (at + 64) mem.old mem.new }
@@ -270,7 +267,7 @@ pub fn processor_internal(
 }
 
 // A job comes: the batcher's rule, done in the row's words. The port isn't looked at.
-pub fn batcher_external(mem: &mut [u64], row: usize, model: Batcher, content: u32) -> Answer
+pub fn batcher_external(mem: &mut [u64], row: usize, model: Batcher, content: u32) -> Result<(), Refusal>
     requires { Row (Table.batcher model) (begin_in mem.old row) mem.old row }
     ensures takes { (services : List Float) (clock : Float) (port : ℕ) → Took result (Table.batcher model) (begin_in mem.old row) row mem.new (atom_external (Table.batcher model) services clock port content (state_in (Table.batcher model) (begin_in mem.old row) mem.old row) (place_in mem.old)) }
     ensures owns { Own row (begin_in mem.old row) 64 0 0 mem.old mem.new }
@@ -284,7 +281,7 @@ pub fn batcher_external(mem: &mut [u64], row: usize, model: Batcher, content: u3
 }
 
 // Its timer has run out: the batcher's rule, done in the row's words. What it puts out stands from `at` on.
-pub fn batcher_internal(mem: &mut [u64], row: usize, model: Batcher, at: usize) -> Put
+pub fn batcher_internal(mem: &mut [u64], row: usize, model: Batcher, at: usize) -> Result<usize, Refusal>
     requires { Row (Table.batcher model) (begin_in mem.old row) mem.old row × (begin_in mem.old row + 64 ≤ at) × (at + 64 ≤ length mem.old) }
     ensures gives { (services : List Float) → Gave result at (Table.batcher model) (begin_in mem.old row) row mem.new (atom_internal (Table.batcher model) services (state_in (Table.batcher model) (begin_in mem.old row) mem.old row) (place_in mem.old)) }
     ensures owns { Own row (begin_in mem.old row) 64 at (at + 64) mem.old mem.new }

@@ -1,5 +1,5 @@
 -- Ids and ports one after the other, and what was read, said in the code's terms. Assumes nothing.
-use Rattle.std.specs.Prelude.{if◌then◌else◌}
+use Rattle.std.specs.Prelude.{if◌then◌else◌, None, Option, Some}
 use Prim.Native.Nat.{ℕ, zero, suc, ◌≤◌, ◌<◌}
 use mathlib.Core.Path.{◌≡◌, refl, sym, ap, ◌∙◌}
 use mathlib.Core.Bool.{Bool, true, false, not}
@@ -11,12 +11,9 @@ use lib.Ieee.Bits.{is_true}
 use Rattle.times.specs.Time.{is_time}
 use Rattle.times.specs.Answers.{time_of_bits}
 use Rattle.times.proofs.AnswerLaws.{time-says}
-use Rattle.times.specs.declared.TimeOf.TheVariants.{Time}
 use Rattle.rules.specs.Sizes.{is_port}
 use Rattle.rules.specs.Intake as Intake
 use Rattle.rules.specs.Layout.{cell, connector_width, coupling_width, lent}
-use Rattle.words.specs.declared.Found.{Found}
-use Rattle.words.specs.declared.Found.TheVariants.{At, Nothing}
 use Rattle.table.specs.declared.Verdict.{Verdict}
 use Rattle.table.specs.declared.Verdict.TheVariants.{TooLarge, BadRow, BadConnector, BadCoupling, Passed}
 use Rattle.table.specs.Readers.{row_of}
@@ -35,24 +32,24 @@ module _ {w : ℕ} (row : List ℕ) (k : ℕ) (e : w ≡ cell row k) where
   port-beyond h = rw (← e) (le-ltb w 65536 (omega arith))
 
 -- ---- the rules of n words, by the first that is no id or port
-abbrev pub wide_or : (ℕ → Reason) → Reason → Found → Reason
-wide_or wide rest (At k) = wide k
-wide_or wide rest Nothing = rest
+abbrev pub wide_or : (ℕ → Reason) → Reason → Option ℕ → Reason
+wide_or wide rest (Some k) = wide k
+wide_or wide rest None = rest
 
 pub widths-are : (wide : ℕ → Reason) (row : List ℕ) (rest : Reason) (c n : ℕ) → first_broken (widths wide row c n) rest ≡ wide_or wide rest (first_wide row c n)
 widths-are wide row rest c zero = refl
 widths-are wide row rest c (suc n) = go (is_port (cell row c)) (widths-are wide row rest (suc c) n)
   where
     go : (b : Bool) → first_broken (widths wide row (suc c) n) rest ≡ wide_or wide rest (first_wide row (suc c) n)
-        → (if b then first_broken (widths wide row (suc c) n) rest else wide c) ≡ wide_or wide rest (if not b then At c else first_wide row (suc c) n)
+        → (if b then first_broken (widths wide row (suc c) n) rest else wide c) ≡ wide_or wide rest (if not b then Some c else first_wide row (suc c) n)
     go true e = e
     go false e = refl
 
-pub widths-by : (wide : ℕ → Reason) (row : List ℕ) (rest : Reason) (c n : ℕ) {f g : Found} → f ≡ first_wide row c n → f ≡ g → wide_or wide rest g ≡ first_broken (widths wide row c n) rest
+pub widths-by : (wide : ℕ → Reason) (row : List ℕ) (rest : Reason) (c n : ℕ) {f g : Option ℕ} → f ≡ first_wide row c n → f ≡ g → wide_or wide rest g ≡ first_broken (widths wide row c n) rest
 widths-by wide row rest c n e h = sym (widths-are wide row rest c n ∙ ap (wide_or wide rest) (sym e ∙ h))
 
 -- ---- a time that was read
-pub time-read : (bits : ℕ) (x : Float) → time_of_bits bits ≡ Time x → is_time (of_bits binary64 bits) ≡ true
+pub time-read : (bits : ℕ) (x : Float) → time_of_bits bits ≡ Some x → is_time (of_bits binary64 bits) ≡ true
 time-read bits x e = let z = time-says bits x e in ap is_time (sym z.1) ∙ is_true (is_time x) z.0
 
 -- ---- the verdict that was read

@@ -1,9 +1,8 @@
 -- Rules looked at one after the other, and the reason of the first that is broken. Assumes nothing.
-use Rattle.std.specs.Prelude.{ℕ, Bool, not, List, [], ◌∷◌, map, if◌then◌else◌}
+use Rattle.std.specs.Prelude.{ℕ, Bool, not, List, [], ◌∷◌, map, if◌then◌else◌, Option}
 use Rattle.rules.specs.Sizes.{is_port}
 use Rattle.rules.specs.Base.{from}
 use Rattle.rules.specs.Layout.{cell}
-use Rattle.words.specs.declared.Found.{Found}
 use Rattle.words.specs.Search.{first_from}
 use Rattle.reasons.specs.declared.Reason.{Reason}
 
@@ -26,5 +25,5 @@ abbrev pub widths : (ℕ → Reason) → List ℕ → ℕ → ℕ → List Check
 widths wide row c n = map (λ k. is_port (cell row k) or wide k) (from c n)
 
 -- the first of them that is not
-abbrev pub first_wide : List ℕ → ℕ → ℕ → Found
+abbrev pub first_wide : List ℕ → ℕ → ℕ → Option ℕ
 first_wide row c n = first_from (λ k. not (is_port (cell row k))) c n

@@ -1,5 +1,5 @@
 -- A model row that intake refuses breaks the rule that is named: each test that fails breaks its rule, and where all pass the row would be kept. Assumes nothing.
-use Rattle.std.specs.Prelude.{ℕ, zero, suc, ◌/◌, ◌≤◌, ◌<◌, ◌^◌, ◌≡◌, Bool, List, length, if◌then◌else◌}
+use Rattle.std.specs.Prelude.{ℕ, zero, suc, ◌/◌, ◌≤◌, ◌<◌, ◌^◌, ◌≡◌, Bool, List, length, if◌then◌else◌, None, Some}
 use Rattle.std.proofs.Math.Path.{refl, ap, subst}
 use Rattle.std.proofs.Common.{sym, ◌∙◌}
 use Rattle.std.proofs.Math.Bool.{true, false, not}
@@ -17,8 +17,6 @@ use Rattle.rules.specs.Intake.{parent_fits}
 use Rattle.rules.specs.Layout.{cell, is_given, model_width, parent_in, metric_in, kind_in}
 use Rattle.rules.specs.Ends.{All, nil, ◌&◌}
 use Rattle.rules.specs.Decides.{passes, coupled-id-decides}
-use Rattle.words.specs.declared.Found.{Found}
-use Rattle.words.specs.declared.Found.TheVariants.{At, Nothing}
 use Rattle.words.specs.Search.{matches}
 use Rattle.words.specs.SearchLaws.{is_found, first-at}
 use Rattle.table.specs.Readers.{row_of, id_in, kind_of, depth_in}
@@ -118,12 +116,12 @@ module _ (models : List ℕ) (k : ℕ) (begins : k ≤ length models / model_wid
   id-breaks : not (is_found (taken_by models k (id_in models k))) ≡ false → P (IdTaken (place_in (taken_by models k (id_in models k))))
   id-breaks = go (taken_by models k (id_in models k)) refl
     where
-      go : (f : Found) → taken_by models k (id_in models k) ≡ f → not (is_found f) ≡ false → P (IdTaken (place_in f))
-      go (At j) e h =
+      go : (f : Option ℕ) → taken_by models k (id_in models k) ≡ f → not (is_found f) ≡ false → P (IdTaken (place_in f))
+      go (Some j) e h =
           let first = first-at (matches (id_and (id_in models k) 0 (id_in models k)) 10 models) 0 k j (sym (searched models k (id_in models k) 0 (id_in models k) begins (omega arith)) ∙ e) in
           let both = same_test models k (id_in models k) 0 (id_in models k) begins (omega arith) j ∙ first.2 in
           id-taken {j = j} (omega arith) (eqb-true (id_in models j) (id_in models k) (is_true _ (and_l (eqb (id_in models j) (id_in models k)) (eqb (id_in models j) (id_in models k)) (subst T (sym both) tt))))
-      go Nothing e h = absurd (false≢true (sym h))
+      go None e h = absurd (false≢true (sym h))
 
   parent-breaks : parent_stands models k (parent_in row) ≡ false → P NoParent
   parent-breaks = go (parent_in row) refl

@@ -1,5 +1,5 @@
 -- Why a table is refused. The rules that a row can break are looked at in the order in which a person does: whether it is whole, its kind, its fields, ids and ports, what is the kind's own, whether the id is taken, the parent, the depth. Definitions only. Assumes nothing.
-use Rattle.std.specs.Prelude.{ℕ, ◌/◌, Bool, true, not, List, [], ◌∷◌, length, leb, ltb, eqb, if◌then◌else◌}
+use Rattle.std.specs.Prelude.{ℕ, ◌/◌, Bool, true, not, List, [], ◌∷◌, length, leb, ltb, eqb, if◌then◌else◌, None, Some}
 use Rattle.std.proofs.Math.Option.{Option, none, some}
 use Rattle.std.specs.Float.{binary64}
 use Rattle.std.specs.Float.Ieee.{of_bits}
@@ -7,8 +7,6 @@ use Rattle.times.specs.Time.{is_time}
 use Rattle.rules.specs.Sizes.{most_rows, most_connectors, deepest, largest_batch}
 use Rattle.rules.specs.Intake.{Verdict, too_large, bad_row, bad_connector, bad_coupling, passed, intake, is_component_of}
 use Rattle.rules.specs.Layout.{cell, parent_in, model_width, connector_width, coupling_width, lent}
-use Rattle.words.specs.declared.Found.{Found}
-use Rattle.words.specs.declared.Found.TheVariants.{At, Nothing}
 use Rattle.words.specs.Search.{next_row}
 use Rattle.words.specs.SearchLaws.{is_found}
 use Rattle.table.specs.Readers.{row_of, id_in, depth_in}
@@ -28,12 +26,12 @@ size_reason models connectors = first_broken (size_checks models connectors) Man
 
 -- ---- a model row against the rows before it
 -- the row before the row k that has this id
-abbrev pub taken_by : List ℕ → ℕ → ℕ → Found
+abbrev pub taken_by : List ℕ → ℕ → ℕ → Option ℕ
 taken_by models k id = next_row (id_and id 0 id) model_width 0 k models
 
-abbrev pub place_in : Found → ℕ
-place_in (At j) = j
-place_in Nothing = 0
+abbrev pub place_in : Option ℕ → ℕ
+place_in (Some j) = j
+place_in None = 0
 
 -- one of the first n rows has the id, and is a Coupled (word 1 is 4)
 abbrev pub coupled_before : List ℕ → ℕ → ℕ → Bool

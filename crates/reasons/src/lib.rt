@@ -8,9 +8,8 @@ ghost use Rattle.table.specs.Searched.{id_and};
 ghost use Rattle.reasons.specs.Checks.{first_wide};
 ghost use Rattle.reasons.specs.Reasons as Reasons;
 
-use table::{Parent, Verdict};
-use times::TimeOf;
-use words::{Cell, Found, Key};
+use table::Verdict;
+use words::{Cell, Key};
 
 // The rule that is broken. A number is a row of the models, or a word of the bad row, counted from 0.
 #[derive(Clone, Copy)]
@@ -43,21 +42,21 @@ pub enum Reason {
 }
 
 // The first word from `first` to before `end` that is no id or port.
-fn first_wide(cells: &[u64], first: usize, end: usize) -> Found
+fn first_wide(cells: &[u64], first: usize, end: usize) -> Option<usize>
     ensures { result ≡ first_wide cells.now first (end - first) }
 {
     let mut at = first;
     while at < end {
         if 0xFFFF < words::word_at(cells, at) {
-            return Found::At(at);
+            return Some(at);
         }
         at += 1;
     }
-    Found::Nothing
+    None
 }
 
 // The first of the first `rows` rows that has the id, and the value in the cell.
-fn row_with(models: &[u64], rows: usize, id: u64, at: usize, value: u64) -> Found
+fn row_with(models: &[u64], rows: usize, id: u64, at: usize, value: u64) -> Option<usize>
     ensures { result ≡ next_row (id_and id at value) 10 0 rows models.now }
 {
     let named = Cell { at: 0, value: id };
@@ -76,11 +75,11 @@ fn place_reason(models: &[u64], row: usize) -> Reason
     ensures { result ≡ Reasons.place_reason models.now row }
 {
     match table::parent_at(models, row) {
-        Parent::Of(id) => match row_with(models, row, id, 1, 4) {
-            Found::At(_) => depth_reason(models, row),
-            Found::Nothing => Reason::NoParent,
+        Some(id) => match row_with(models, row, id, 1, 4) {
+            Some(_) => depth_reason(models, row),
+            None => Reason::NoParent,
         },
-        Parent::Nobody => depth_reason(models, row),
+        None => depth_reason(models, row),
     }
 }
 
@@ -103,8 +102,8 @@ fn join_reason(models: &[u64], row: usize) -> Reason
 {
     let id = table::id_at(models, row);
     match row_with(models, row, id, 0, id) {
-        Found::At(earlier) => Reason::IdTaken(earlier),
-        Found::Nothing => place_reason(models, row),
+        Some(earlier) => Reason::IdTaken(earlier),
+        None => place_reason(models, row),
     }
 }
 
@@ -119,8 +118,8 @@ fn batcher_reason(models: &[u64], row: usize, size: u64, bits: u64) -> Reason
         return Reason::LargeBatch;
     }
     match times::time_of_bits(bits) {
-        TimeOf::Time(_) => join_reason(models, row),
-        TimeOf::Bad => Reason::NoBatchTime,
+        Some(_) => join_reason(models, row),
+        None => Reason::NoBatchTime,
     }
 }
 
@@ -181,8 +180,8 @@ fn port_reason(models: &[u64], row: usize, cells: &[u64]) -> Reason
         return Reason::ModelWide(0);
     }
     match first_wide(cells, 4, 8) {
-        Found::At(cell) => Reason::ModelWide(cell),
-        Found::Nothing => kind_reason(models, row, cells),
+        Some(cell) => Reason::ModelWide(cell),
+        None => kind_reason(models, row, cells),
     }
 }
 
@@ -215,8 +214,8 @@ fn connector_reason(cells: &[u64]) -> Reason
         return Reason::ConnectorCutShort;
     }
     match first_wide(cells, 0, 4) {
-        Found::At(cell) => Reason::ConnectorWide(cell),
-        Found::Nothing => Reason::NoReason,
+        Some(cell) => Reason::ConnectorWide(cell),
+        None => Reason::NoReason,
     }
 }
 
@@ -224,7 +223,7 @@ fn connector_reason(cells: &[u64]) -> Reason
 fn owner_reason(models: &[u64], owner: u64, kind: u64, target: u64) -> Reason
     ensures { result ≡ Reasons.owner_reason models.now owner kind target }
 {
-    if let Found::Nothing = row_with(models, models.len() / 10, owner, 1, 4) {
+    if let None = row_with(models, models.len() / 10, owner, 1, 4) {
         return Reason::NoOwner;
     }
     if kind != 1 {
@@ -245,8 +244,8 @@ fn end_reason(models: &[u64], cells: &[u64]) -> Reason
         return Reason::CouplingWide(0);
     }
     match first_wide(cells, 2, 6) {
-        Found::At(cell) => Reason::CouplingWide(cell),
-        Found::Nothing => {
+        Some(cell) => Reason::CouplingWide(cell),
+        None => {
             let kind = words::word_at(cells, 1);
             let target = words::word_at(cells, 4);
             owner_reason(models, owner, kind, target)

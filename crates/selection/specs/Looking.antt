@@ -1,24 +1,20 @@
 -- A search that looks at one place after another: what it finds, and that searches which go on from each other's end look at each place once. Assumes nothing.
-use Rattle.std.specs.Prelude.{ℕ, zero, suc, ◌+◌, ◌-◌, ◌≤◌, ◌<◌, ◌≡◌, refl, Bool, true, false, List, [], ◌∷◌, ◌++◌, length, if◌then◌else◌}
+use Rattle.std.specs.Prelude.{ℕ, zero, suc, ◌+◌, ◌-◌, ◌≤◌, ◌<◌, ◌≡◌, refl, Bool, true, false, List, [], ◌∷◌, ◌++◌, length, if◌then◌else◌, None, Option, Some}
 use Rattle.std.proofs.Common.{sym, ap, ◌∙◌, add-zero, zero-add, add-one, arith}
 use Rattle.rules.specs.Base.{from}
-use Rattle.words.specs.declared.Found.{Found}
-use Rattle.words.specs.declared.Found.TheVariants.{At, Nothing}
 use Rattle.words.specs.Search.{first_from}
 use Rattle.words.specs.SearchLaws.{search-end, search-hit, search-skip, found-not}
 use Rattle.selection.specs.declared.Target.{Target}
 use Rattle.selection.specs.declared.Link.{Link}
 use Rattle.selection.specs.declared.Link.TheVariants as link
-use Rattle.selection.specs.declared.Seen.{Seen}
-use Rattle.selection.specs.declared.Seen.TheVariants.{To, Other}
 use Rattle.selection.specs.Selecting.{seen_of, link_of, looks, Finds}
 
 -- ---- what one look shows
-seen-to : (t : Bool) (x to : Target) → seen_of t x ≡ To to → (t ≡ true) × (to ≡ x)
+seen-to : (t : Bool) (x to : Target) → seen_of t x ≡ Some to → (t ≡ true) × (to ≡ x)
 seen-to true x to h = (refl, cc)
 seen-to false x to h = absurd (let z : ◌≡◌ {A = ℕ} 0 1 = cc in omega arith)
 
-seen_other : (t : Bool) (x : Target) → seen_of t x ≡ Other → t ≡ false
+seen_other : (t : Bool) (x : Target) → seen_of t x ≡ None → t ≡ false
 seen_other true x h = absurd (let z : ◌≡◌ {A = ℕ} 0 1 = cc in omega arith)
 seen_other false x h = refl
 
@@ -44,21 +40,21 @@ module _ (test : ℕ → Bool) where
       by false later = ap (λ (l : List ℕ). k ∷ l) later
 
   -- all, where none passes
-  looks-all : (k n : ℕ) → first_from test k n ≡ Nothing → length (looks test k n) ≡ n
+  looks-all : (k n : ℕ) → first_from test k n ≡ None → length (looks test k n) ≡ n
   looks-all k zero h = refl
   looks-all k (suc n) h = by (test k) h (looks-all (suc k) n)
     where
-      by : (t : Bool) → (if t then At k else first_from test (suc k) n) ≡ Nothing → (first_from test (suc k) n ≡ Nothing → length (looks test (suc k) n) ≡ n)
+      by : (t : Bool) → (if t then Some k else first_from test (suc k) n) ≡ None → (first_from test (suc k) n ≡ None → length (looks test (suc k) n) ≡ n)
           → suc (length (if t then [] else looks test (suc k) n)) ≡ suc n
       by true h later = absurd (found-not k h)
       by false h later = ap suc (later h)
 
   -- up to the one that is found
-  looks-at : (k n j : ℕ) → first_from test k n ≡ At j → k + length (looks test k n) ≡ j + 1
+  looks-at : (k n j : ℕ) → first_from test k n ≡ Some j → k + length (looks test k n) ≡ j + 1
   looks-at k zero j h = absurd (found-not j (sym h))
   looks-at k (suc n) j h = by (test k) h (looks-at (suc k) n j)
     where
-      by : (t : Bool) → (if t then At k else first_from test (suc k) n) ≡ At j → (first_from test (suc k) n ≡ At j → suc k + length (looks test (suc k) n) ≡ j + 1)
+      by : (t : Bool) → (if t then Some k else first_from test (suc k) n) ≡ Some j → (first_from test (suc k) n ≡ Some j → suc k + length (looks test (suc k) n) ≡ j + 1)
           → k + suc (length (if t then [] else looks test (suc k) n)) ≡ j + 1
       by true h later = let same : k ≡ j = cc in omega arith
       by false h later = let l = later h in omega arith
@@ -102,14 +98,14 @@ module _ (test : ℕ → Bool) (lead : ℕ → Target) (count start : ℕ) where
     }
 
     -- one place more has been looked at
-    module _ (below : at < count) (seen : Seen) (sees : seen ≡ seen_of (test at) (lead at)) (after : ℕ) (one : after ≡ at + 1) where
-      pub looking-on : seen ≡ Other → Looking after
+    module _ (below : at < count) (seen : Option Target) (sees : seen ≡ seen_of (test at) (lead at)) (after : ℕ) (one : after ≡ at + 1) where
+      pub looking-on : seen ≡ None → Looking after
       looking-on other =
           let fails = seen_other (test at) (lead at) (sym sees ∙ other) in
           rw one
           record { left = sym (search-skip test at count below fails) ∙ so_far.left; once = sym (looks-skip test at count below fails) ∙ so_far.once }
 
-      pub looking-found : (to : Target) → seen ≡ To to → Finds test lead count start (link.At at to) after
+      pub looking-found : (to : Target) → seen ≡ Some to → Finds test lead count start (link.At at to) after
       looking-found to found =
           let passes = seen-to (test at) (lead at) to (sym sees ∙ found) in
           record {
@@ -119,22 +115,22 @@ module _ (test : ℕ → Bool) (lead : ℕ → Target) (count start : ℕ) where
 
 -- ---- what a caller learns from a search
 module _ (test : ℕ → Bool) (lead : ℕ → Target) (count looked : ℕ) (r : Link) (after : ℕ) (finds : Finds test lead count looked r after) where
-  pub finds-none : r ≡ link.Nothing → first_from test looked (count - looked) ≡ Nothing
+  pub finds-none : r ≡ link.Nothing → first_from test looked (count - looked) ≡ None
   finds-none h = by (first_from test looked (count - looked)) (sym h ∙ finds.is)
     where
-      by : (f : Found) → link.Nothing ≡ link_of lead f → f ≡ Nothing
-      by (At k) e = absurd (let z : ◌≡◌ {A = ℕ} 0 1 = cc in omega arith)
-      by Nothing e = refl
+      by : (f : Option ℕ) → link.Nothing ≡ link_of lead f → f ≡ None
+      by (Some k) e = absurd (let z : ◌≡◌ {A = ℕ} 0 1 = cc in omega arith)
+      by None e = refl
 
   -- then all have been looked at
   pub finds-all : looked ≤ count → r ≡ link.Nothing → after ≡ count
   finds-all within none = finds.once ∙ rw (looks-all test looked (count - looked) (finds-none none)) (omega arith)
 
-  pub finds-at : (j : ℕ) (to : Target) → r ≡ link.At j to → (first_from test looked (count - looked) ≡ At j) × (to ≡ lead j) × (after ≡ j + 1)
+  pub finds-at : (j : ℕ) (to : Target) → r ≡ link.At j to → (first_from test looked (count - looked) ≡ Some j) × (to ≡ lead j) × (after ≡ j + 1)
   finds-at j to h =
       let found = by (first_from test looked (count - looked)) (sym h ∙ finds.is) in
       (found.0, found.1, finds.once ∙ looks-at test looked (count - looked) j found.0)
     where
-      by : (f : Found) → link.At j to ≡ link_of lead f → (f ≡ At j) × (to ≡ lead j)
-      by (At k) e = let same : j ≡ k = cc in let leads : to ≡ lead k = cc in (ap At (sym same), leads ∙ ap lead (sym same))
-      by Nothing e = absurd (let z : ◌≡◌ {A = ℕ} 0 1 = cc in omega arith)
+      by : (f : Option ℕ) → link.At j to ≡ link_of lead f → (f ≡ Some j) × (to ≡ lead j)
+      by (Some k) e = let same : j ≡ k = cc in let leads : to ≡ lead k = cc in (ap Some (sym same), leads ∙ ap lead (sym same))
+      by None e = absurd (let z : ◌≡◌ {A = ℕ} 0 1 = cc in omega arith)

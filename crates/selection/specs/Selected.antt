@@ -1,5 +1,5 @@
 -- In a table that passes intake, the rules' lists are the places that a search finds, in order. Assumes nothing.
-use Rattle.std.specs.Prelude.{ℕ, zero, suc, ◌+◌, ◌-◌, ◌≤◌, ◌<◌, ◌≡◌, refl, Bool, true, false, ◌&&◌, List, [], ◌∷◌, map, length, eqb, if◌then◌else◌}
+use Rattle.std.specs.Prelude.{ℕ, zero, suc, ◌+◌, ◌-◌, ◌≤◌, ◌<◌, ◌≡◌, refl, Bool, true, false, ◌&&◌, List, [], ◌∷◌, map, length, eqb, if◌then◌else◌, None, Some}
 use Rattle.std.proofs.Common.{ap, ◌∙◌, arith, add-one}
 use Rattle.std.proofs.Math.Option.{Option, none, some}
 use Rattle.rules.specs.Base.{Outcome, done, ◌>>=◌, each, those, chosen, hold, from}
@@ -11,7 +11,6 @@ use Rattle.rules.specs.Layout.{cell, coupling_width, coupling_in, whole_coupling
 use Rattle.table.specs.Readers.{row_of}
 use Rattle.table.specs.Passed as Passed
 use Rattle.table.specs.Passed.{models-long, connectors-long, couplings-long, id-read, parent-read, connectors-read, couplings-read, coupling-is-at}
-use Rattle.words.specs.declared.Found.TheVariants.{At, Nothing}
 use Rattle.words.specs.Search.{first_from}
 use Rattle.words.specs.SearchLaws.{first-at, first-nothing}
 use Rattle.selection.specs.Selecting.{rows_in, connectors_in, couplings_in, connects, is_some, chosen_of, coupling_read, is_input, is_output, is_internal, is_component, is_free, has_id, target_in}
@@ -20,25 +19,25 @@ use Rattle.selection.specs.SelectingLaws.{kinds, coupling_by}
 
 -- ---- a sweep over those that pass a test, by what a search answers
 module _ {S : Type 0} (visit : ℕ → S → Outcome S) (test : ℕ → Bool) (k n : ℕ) (s : S) where
-  pub each_on : (j : ℕ) → first_from test k n ≡ At j → each visit (those test (from k n)) s ≡ (visit j s >>= each visit (those test (from (suc j) (k + n - suc j))))
+  pub each_on : (j : ℕ) → first_from test k n ≡ Some j → each visit (those test (from k n)) s ≡ (visit j s >>= each visit (those test (from (suc j) (k + n - suc j))))
   each_on j h = ap (λ (l : List ℕ). each visit l s) (first-at test k n j h).3
 
-  pub each-end : first_from test k n ≡ Nothing → each visit (those test (from k n)) s ≡ done s
+  pub each-end : first_from test k n ≡ None → each visit (those test (from k n)) s ≡ done s
   each-end h = ap (λ (l : List ℕ). each visit l s) (first-nothing test k n h)
 
 -- the same, as a loop goes on: from `row` to before `end`, and then from the place after
 module _ {S : Type 0} (visit : ℕ → S → Outcome S) (test : ℕ → Bool) (row end : ℕ) (s : S) where
-  pub sweep-on : (j : ℕ) → first_from test row (end - row) ≡ At j → each visit (those test (from row (end - row))) s ≡ (visit j s >>= each visit (those test (from (j + 1) (end - (j + 1)))))
+  pub sweep-on : (j : ℕ) → first_from test row (end - row) ≡ Some j → each visit (those test (from row (end - row))) s ≡ (visit j s >>= each visit (those test (from (j + 1) (end - (j + 1)))))
   sweep-on j h =
       let first = first-at test row (end - row) j h in
       let left : row + (end - row) - suc j ≡ end - suc j = omega arith in
       each_on visit test row (end - row) s j h ∙ rw (left, add-one)
 
-  pub sweep-end : first_from test row (end - row) ≡ Nothing → each visit (those test (from row (end - row))) s ≡ done s
+  pub sweep-end : first_from test row (end - row) ≡ None → each visit (those test (from row (end - row))) s ≡ done s
   sweep-end h = each-end visit test row (end - row) s h
 
   -- the place found is one of them
-  pub sweep-bounds : (j : ℕ) → first_from test row (end - row) ≡ At j → (row ≤ j) × (j < end) × (test j ≡ true)
+  pub sweep-bounds : (j : ℕ) → first_from test row (end - row) ≡ Some j → (row ≤ j) × (j < end) × (test j ≡ true)
   sweep-bounds j h = let first = first-at test row (end - row) j h in (omega arith, omega arith, first.2)
 
 -- a sweep over things that are read at places is one over the places

@@ -1,18 +1,14 @@
 -- Which rows of a lent table match, by the layout and the rules' own tests, and what a search for them answers and looks at. Definitions only. Assumes nothing.
-use Rattle.std.specs.Prelude.{ℕ, zero, suc, ◌+◌, ◌-◌, ◌/◌, ◌≡◌, Bool, true, false, ◌&&◌, List, [], ◌∷◌, length, eqb, if◌then◌else◌}
+use Rattle.std.specs.Prelude.{ℕ, zero, suc, ◌+◌, ◌-◌, ◌/◌, ◌≡◌, Bool, true, false, ◌&&◌, List, [], ◌∷◌, length, eqb, if◌then◌else◌, None, Some}
 use Rattle.std.proofs.Math.Option.{Option, none, some}
 use Rattle.rules.specs.Table.{Connector, Coupling, input_of, output_of, internal_of, is_parent, is_parentless}
 use Rattle.rules.specs.Layout.{cell, model_width, connector_width, coupling_width, parent_in, coupling_in}
 use Rattle.table.specs.Readers.{row_of, id_in}
 use Rattle.table.specs.Passed.{connector_at}
-use Rattle.words.specs.declared.Found.{Found}
-use Rattle.words.specs.declared.Found.TheVariants.{At, Nothing}
 use Rattle.words.specs.Search.{first_from}
 use Rattle.selection.specs.declared.Target.{Target}
 use Rattle.selection.specs.declared.Link.{Link}
 use Rattle.selection.specs.declared.Link.TheVariants as link
-use Rattle.selection.specs.declared.Seen.{Seen}
-use Rattle.selection.specs.declared.Seen.TheVariants.{To, Other}
 
 -- the whole rows
 abbrev pub rows_in : List ℕ → ℕ
@@ -40,14 +36,14 @@ abbrev pub lead_at : List ℕ → ℕ → Target
 lead_at connectors k = lead_of (connector_at connectors k)
 
 -- ---- what a search for a connector answers, and which places it looks at
-abbrev pub seen_of : Bool → Target → Seen
-seen_of true to = To to
-seen_of false to = Other
+abbrev pub seen_of : Bool → Target → Option Target
+seen_of true to = Some to
+seen_of false to = None
 
 -- the place that was found, with where it leads
-abbrev pub link_of : (ℕ → Target) → Found → Link
-link_of lead (At k) = link.At k (lead k)
-link_of lead Nothing = link.Nothing
+abbrev pub link_of : (ℕ → Target) → Option ℕ → Link
+link_of lead (Some k) = link.At k (lead k)
+link_of lead None = link.Nothing
 
 -- of the n places from k on, those that are looked at: up to the first that passes the test, and it
 abbrev pub looks : (ℕ → Bool) → ℕ → ℕ → List ℕ

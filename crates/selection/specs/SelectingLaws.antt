@@ -12,7 +12,6 @@ use Rattle.words.specs.SearchLaws.{cells-inside, next-row-first, first-ext}
 use Rattle.table.specs.Readers.{row_of}
 use Rattle.table.specs.Passed.{connector_of}
 use Rattle.table.specs.Rows.{row-cell}
-use Rattle.selection.specs.declared.Seen.{Seen}
 use Rattle.selection.specs.Selecting.{rows_in, couplings_in, comes_from, connects, lead_of, lead_at, seen_of, is_some, chosen_of, is_input, is_output, is_internal, is_component, is_free, has_id, target_in}
 
 -- ---- what the private functions make and test
@@ -57,7 +56,7 @@ module _ (key : Key) (width : ℕ) (inside : in_row key width ≡ true) where
       ∙ first-ext _ _ from (length words / width - from) (λ k h b. sym (key-cells words k) ∙ same (row_of width words k))
 
 -- ---- connectors: what is seen in the words from the start of the row k to the next row's
-pub connector-seen : (words : List ℕ) (source port k start : ℕ) → start ≡ k * 4 → (seen : Seen)
+pub connector-seen : (words : List ℕ) (source port k start : ℕ) → start ≡ k * 4 → (seen : Option Target)
     → (let c = connector_of (take (start + 4 - start) (drop start words)) in seen ≡ seen_of (comes_from source port c) (lead_of c))
     → seen ≡ seen_of (connects words source port k) (lead_at words k)
 connector-seen words source port k start begins seen is =

@@ -8,7 +8,7 @@ ghost use Rattle.words.specs.Search.{first_from, next_row};
 ghost use Rattle.selection.specs.Selecting.{connects, is_input, is_output, is_internal, is_component, is_free, has_id, comes_from, lead_of, lead_at, target_in, seen_of, Finds, connectors_in, couplings_in, rows_in};
 ghost use Rattle.selection.specs.SelectingLaws.{coupling_key, child_at};
 
-use words::{Cell, Found, Key};
+use words::{Cell, Key};
 
 // A component's id, or a model's, with a port of it.
 #[derive(Clone, Copy)]
@@ -24,27 +24,20 @@ pub enum Link {
     Nothing,
 }
 
-// What a look at one connector shows: it matches, and leads there; or it is another.
-#[derive(Clone, Copy)]
-enum Seen {
-    To(Target),
-    Other,
-}
-
 // A look at one connector: where it leads, if it comes from this id and port. It is lent no other row, names each word once, and counts itself.
-fn look_at(row: &[u64], looked: &mut usize, source: u64, port: u64) -> Seen
+fn look_at(row: &[u64], looked: &mut usize, source: u64, port: u64) -> Option<Target>
     requires { (length row.now ≡ 4) × (looked.old < 18446744073709551615) }
     ensures sees { result ≡ seen_of (comes_from source port (connector_of row.now)) (lead_of (connector_of row.now)) }
     ensures once { looked.new ≡ looked.old + 1 }
 {
     *looked += 1;
     if row[0] != source {
-        return Seen::Other;
+        return None;
     }
     if row[1] != port {
-        return Seen::Other;
+        return None;
     }
-    Seen::To(Target {
+    Some(Target {
         id: row[2],
         port: row[3],
     })
@@ -59,7 +52,7 @@ fn next_coupling(
     at: usize,
     source: u64,
     port: u64,
-) -> Found
+) -> Option<usize>
     ensures { result ≡ next_row (coupling_key kind owner at source port) 6 from (couplings_in couplings.now) couplings.now }
 {
     let key = Key {
@@ -90,18 +83,18 @@ fn is_child(models: &[u64], row: usize, given: u64, parent: u64) -> bool
 }
 
 // The next row whose parent is the one asked for.
-fn next_child(models: &[u64], from: usize, given: u64, parent: u64) -> Found
+fn next_child(models: &[u64], from: usize, given: u64, parent: u64) -> Option<usize>
     ensures { result ≡ first_from (child_at given parent models.now) from (rows_in models.now - from) }
 {
     let end = models.len() / 10;
     let mut row = from;
     while row < end {
         if is_child(models, row, given, parent) {
-            return Found::At(row);
+            return Some(row);
         }
         row += 1;
     }
-    Found::Nothing
+    None
 }
 
 // The next connector from this id and port, with where it leads, or Nothing. `looked` is how many have been looked at: the search goes on there.
@@ -119,29 +112,29 @@ pub fn next_connector(connectors: &[u64], looked: &mut usize, source: u64, port:
         let place = *looked;
         let next = start + 4;
         match look_at(&connectors[start..next], looked, source, port) {
-            Seen::To(target) => return Link::At(place, target),
-            Seen::Other => start = next,
+            Some(target) => return Link::At(place, target),
+            None => start = next,
         }
     }
     Link::Nothing
 }
 
 // The next external input coupling of this owner, at this port, or Nothing.
-pub fn next_input(couplings: &[u64], from: usize, owner: u64, port: u64) -> Found
+pub fn next_input(couplings: &[u64], from: usize, owner: u64, port: u64) -> Option<usize>
     ensures { result ≡ first_from (is_input couplings.now owner port) from (couplings_in couplings.now - from) }
 {
     next_coupling(couplings, from, 1, owner, 3, port, port)
 }
 
 // The next external output coupling of this owner, from this component's port, or Nothing.
-pub fn next_output(couplings: &[u64], from: usize, owner: u64, source: u64, port: u64) -> Found
+pub fn next_output(couplings: &[u64], from: usize, owner: u64, source: u64, port: u64) -> Option<usize>
     ensures { result ≡ first_from (is_output couplings.now owner source port) from (couplings_in couplings.now - from) }
 {
     next_coupling(couplings, from, 2, owner, 2, source, port)
 }
 
 // The next internal coupling of this owner, from this component's port, or Nothing.
-pub fn next_internal(couplings: &[u64], from: usize, owner: u64, source: u64, port: u64) -> Found
+pub fn next_internal(couplings: &[u64], from: usize, owner: u64, source: u64, port: u64) -> Option<usize>
     ensures { result ≡ first_from (is_internal couplings.now owner source port) from (couplings_in couplings.now - from) }
 {
     next_coupling(couplings, from, 3, owner, 2, source, port)
@@ -161,21 +154,21 @@ pub fn coupling_target(couplings: &[u64], row: usize) -> Target
 }
 
 // The next component of the Coupled with this id, or Nothing.
-pub fn next_component(models: &[u64], from: usize, owner: u64) -> Found
+pub fn next_component(models: &[u64], from: usize, owner: u64) -> Option<usize>
     ensures { result ≡ first_from (is_component models.now owner) from (rows_in models.now - from) }
 {
     next_child(models, from, 1, owner)
 }
 
 // The next model without parent, or Nothing.
-pub fn next_parentless(models: &[u64], from: usize) -> Found
+pub fn next_parentless(models: &[u64], from: usize) -> Option<usize>
     ensures { result ≡ first_from (is_free models.now) from (rows_in models.now - from) }
 {
     next_child(models, from, 0, 0)
 }
 
 // The next row with this id, or Nothing.
-pub fn next_with_id(models: &[u64], from: usize, id: u64) -> Found
+pub fn next_with_id(models: &[u64], from: usize, id: u64) -> Option<usize>
     ensures { result ≡ first_from (has_id models.now id) from (rows_in models.now - from) }
 {
     let cell = Cell { at: 0, value: id };

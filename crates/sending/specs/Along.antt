@@ -1,5 +1,5 @@
 -- One message along every connector that matches, in order, as a loop sends it. Assumes nothing.
-use Rattle.std.specs.Prelude.{ℕ, ◌+◌, ◌-◌, ◌*◌, ◌≤◌, ◌<◌, ◌≡◌, refl, Bool, ◌⊎◌, List, [], ◌∷◌, ◌++◌, map, length, T, Float}
+use Rattle.std.specs.Prelude.{ℕ, ◌+◌, ◌-◌, ◌*◌, ◌≤◌, ◌<◌, ◌≡◌, refl, Bool, ◌⊎◌, List, [], ◌∷◌, ◌++◌, map, length, T, Float, Err, None, Ok, Some}
 use Rattle.std.proofs.Common.{sym, ap, subst, ◌∙◌, inl, inr, arith, length-append}
 use Rattle.std.proofs.lemmas.Simd.{map-map}
 use Rattle.std.proofs.Math.Nat.{sub-zero}
@@ -14,7 +14,6 @@ use Rattle.rules.specs.Base.{Outcome, refused, done, ◌>>=◌, each, those, fro
 use Rattle.rules.specs.Sizes.{most_active}
 use Rattle.rules.specs.Table.{Table, Connector, id_at, connected}
 use Rattle.rules.specs.Step.{Out, along, send}
-use Rattle.words.specs.declared.Found.TheVariants.{At, Nothing}
 use Rattle.words.specs.Search.{first_from}
 use Rattle.words.specs.SearchLaws.{search-end, first-at}
 use Rattle.table.specs.Passed.{connector_at}
@@ -26,7 +25,6 @@ use Rattle.selection.specs.Looking.{finds-none, finds-at}
 use Rattle.selection.specs.Selected.{sweep-on, sweep-end, each_map}
 use Rattle.lookup.specs.Inside.{Inside, table_in, connectors_in}
 use Rattle.lookup.specs.InsideLaws.{connected-in}
-use Rattle.memory.specs.declared.Put.TheVariants as put
 use Rattle.memory.specs.Words.{word_at, replaced}
 use Rattle.memory.specs.Places.{replaced-length, replaced-other}
 use Rattle.views.specs.World.{end_of}
@@ -99,14 +97,14 @@ module _ (state : List ℕ) (clock : Float) (row : ℕ) (m : Out) where
     finds-along : Finds matches (lead_at (connectors_in state)) (length (table_in state).connectors) looked r after
     finds-along = subst (λ (id : ℕ). Finds (connects (connectors_in state) id m.port) (lead_at (connectors_in state)) (length (table_in state).connectors) looked r after) same finds
 
-    pub none-along : r ≡ link.Nothing → first_from matches looked (length (table_in state).connectors - looked) ≡ Nothing
+    pub none-along : r ≡ link.Nothing → first_from matches looked (length (table_in state).connectors - looked) ≡ None
     none-along = finds-none matches (lead_at (connectors_in state)) (length (table_in state).connectors) looked r after finds-along
 
     pub one_along : (j : ℕ) (to : Target) → r ≡ link.At j to
-        → (first_from matches looked (length (table_in state).connectors - looked) ≡ At j) × (to ≡ lead_at (connectors_in state) j) × (after ≡ j + 1)
+        → (first_from matches looked (length (table_in state).connectors - looked) ≡ Some j) × (to ≡ lead_at (connectors_in state) j) × (after ≡ j + 1)
     one_along = finds-at matches (lead_at (connectors_in state)) (length (table_in state).connectors) looked r after finds-along
 
-  pub found-bounds : (k j : ℕ) → first_from matches k (length (table_in state).connectors - k) ≡ At j → (k ≤ j) × (j < length (table_in state).connectors)
+  pub found-bounds : (k j : ℕ) → first_from matches k (length (table_in state).connectors - k) ≡ Some j → (k ≤ j) × (j < length (table_in state).connectors)
   found-bounds k j found = let first = first-at matches k (length (table_in state).connectors - k) j found in (first.0, omega arith)
 
   -- ---- the loop over connectors
@@ -123,20 +121,20 @@ module _ (state : List ℕ) (clock : Float) (row : ℕ) (m : Out) where
     along-start inside few = sending-start (table_in state) active mem₀ send_along (send_from 0) count few (send-from inside (messages_in active count mem₀) (rw (messages-long active count mem₀) few))
 
     module _ (k sent : ℕ) (mem : List ℕ) (s : Along k sent mem) where
-      pub along-none : first_from matches k (length (table_in state).connectors - k) ≡ Nothing → Sends sent active send_along mem
+      pub along-none : first_from matches k (length (table_in state).connectors - k) ≡ None → Sends sent active send_along mem
       along-none found = sending-end (table_in state) active mem₀ send_along (send_from k) sent mem s (λ ms. sweep-end send_at matches k (length (table_in state).connectors) ms found)
 
       pub along-end : length (table_in state).connectors ≤ k → Sends sent active send_along mem
       along-end past = along-none (search-end matches k (length (table_in state).connectors) past)
 
-      module _ (j : ℕ) (found : first_from matches k (length (table_in state).connectors - k) ≡ At j) where
+      module _ (j : ℕ) (found : first_from matches k (length (table_in state).connectors - k) ≡ Some j) where
         first : (ms : List Message) → send_from k ms ≡ (send_at j ms >>= send_from (j + 1))
         first ms = sweep-on send_at matches k (length (table_in state).connectors) ms j found
 
         pub along-full : sent ≡ 256 → send_along ≡ refused NoMessageRoom
         along-full full =
             sending-stops (table_in state) active mem₀ send_along (send_from k) sent mem s (send_at j) (send_from (j + 1)) first
-            (put.Refused NoMessageRoom) mem (no_room active sent mem (along (table_in state) clock row m (connector_at (connectors_in state) j)) full) NoMessageRoom refl
+            (Err NoMessageRoom) mem (no_room active sent mem (along (table_in state) clock row m (connector_at (connectors_in state) j)) full) NoMessageRoom refl
 
         pub along-on : (id : ℕ) (to : Target) (time looked : ℕ) (after : List ℕ)
             → id ≡ id_at (table_in state) row
@@ -161,5 +159,5 @@ module _ (state : List ℕ) (clock : Float) (row : ℕ) (m : Out) where
             let room-here : active + 1536 ≤ length mem = omega (arith, s.frame.long) in
             subst (λ (k : ℕ). Along k (sent + 1) after) (sym next)
             (sending-on (table_in state) active mem₀ send_along (send_from k) sent mem s (send_at j) (send_from (j + 1)) first
-            (put.Out (sent + 1)) after (has_room active sent mem message words after refl is written free room-here) (sent + 1) refl
+            (Ok (sent + 1)) after (has_room active sent mem message words after refl is written free room-here) (sent + 1) refl
             (in_frame active sent mem message words after refl is written free room-here (table_in state) past))

@@ -1,5 +1,5 @@
 -- Each message that a row has put out, in order, as a loop sends it. Assumes nothing.
-use Rattle.std.specs.Prelude.{ℕ, suc, ◌+◌, ◌-◌, ◌≤◌, ◌<◌, ◌≡◌, List, length, Float}
+use Rattle.std.specs.Prelude.{ℕ, suc, ◌+◌, ◌-◌, ◌≤◌, ◌<◌, ◌≡◌, List, length, Float, Err, Ok, Result}
 use Rattle.std.proofs.Common.{sym, ap, subst, ◌∙◌, inr, add-one, arith}
 use Rattle.std.proofs.Math.Nat.{sub-zero}
 use Rattle.rules.specs.declared.Message.{Message}
@@ -9,8 +9,6 @@ use Rattle.rules.specs.Sizes.{most_active}
 use Rattle.rules.specs.Table.{Table}
 use Rattle.rules.specs.Step.{Out, send}
 use Rattle.selection.specs.Selected.{each_map}
-use Rattle.memory.specs.declared.Put.{Put}
-use Rattle.memory.specs.declared.Put.TheVariants as put
 use Rattle.memory.specs.Words.{word_at}
 use Rattle.memory.specs.View.{out_of, outs_in}
 use Rattle.views.specs.World.{end_of}
@@ -49,15 +47,15 @@ module _ (t : Table) (clock : Float) (row at n : ℕ) (mem₀ : List ℕ) where
       going_end past = let none : n - k ≡ 0 = omega arith in sending-end t active mem₀ send_each (send_outs k) sent mem s (λ ms. rw none)
 
       -- the next one, by the word that stands in `mem` now
-      module _ (below : k < n) (past : end_of t ≤ active) (away : active + 1536 ≤ at) (r : Put) (after : List ℕ) (sends : Sent r active (send t clock row (out_of (word_at mem (at + k))) (messages_in active sent mem)) after) where
+      module _ (below : k < n) (past : end_of t ≤ active) (away : active + 1536 ≤ at) (r : Result ℕ Refusal) (after : List ℕ) (sends : Sent r active (send t clock row (out_of (word_at mem (at + k))) (messages_in active sent mem)) after) where
         first : (ms : List Message) → send_outs k ms ≡ (send_out k ms >>= send_outs (k + 1))
         first ms = let left : n - k ≡ suc (n - (k + 1)) = omega arith in rw (left, add-one k)
 
         sends-it : Sent r active (send_out k (messages_in active sent mem)) after
         sends-it = subst (λ (word : ℕ). Sent r active (send t clock row (out_of word) (messages_in active sent mem)) after) (s.frame.rest (at + k) (inr (omega arith))) sends
 
-        pub going_on : (m : ℕ) → r ≡ put.Out m → Only active (active + 1536) mem after → Going (k + 1) m after
+        pub going_on : (m : ℕ) → r ≡ Ok m → Only active (active + 1536) mem after → Going (k + 1) m after
         going_on = sending-on t active mem₀ send_each (send_outs k) sent mem s (send_out k) (send_outs (k + 1)) first r after sends-it
 
-        pub going-stops : (refusal : Refusal) → r ≡ put.Refused refusal → send_each ≡ refused refusal
+        pub going-stops : (refusal : Refusal) → r ≡ Err refusal → send_each ≡ refused refusal
         going-stops = sending-stops t active mem₀ send_each (send_outs k) sent mem s (send_out k) (send_outs (k + 1)) first r after sends-it

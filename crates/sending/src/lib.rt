@@ -12,7 +12,6 @@ ghost use Rattle.memory.specs.Words.{Only};
 ghost use Rattle.views.specs.World.{end_of};
 ghost use Rattle.views.specs.Messages.{messages_in, Sent};
 
-use memory::Put;
 use rules::Refusal;
 use selection::{Link, Target};
 
@@ -47,7 +46,7 @@ fn send_one(
     content: u64,
     active: usize,
     count: usize,
-) -> Put
+) -> Result<usize, Refusal>
     requires { Inside state.now × T (is_time clock) × (end_of (table_in state.now) ≤ active) × (active + 1536 ≤ length mem.old) × (count ≤ 256) }
     ensures sends { Sent result active (send (table_in state.now) clock row (out_at port content) (messages_in active count mem.old)) mem.new }
     ensures only { Only active (active + 1536) mem.old mem.new }
@@ -59,17 +58,17 @@ fn send_one(
     let mut looked = 0;
     while looked < end {
         match lookup::next_connector(state, &mut looked, id, port) {
-            Link::Nothing => return Put::Out(sent),
+            Link::Nothing => return Ok(sent),
             Link::At(_, target) => {
                 if sent == 256 {
-                    return Put::Refused(Refusal::NoMessageRoom);
+                    return Err(Refusal::NoMessageRoom);
                 }
                 write_message(mem, active + sent * 6, id, port, target, time, content);
                 sent += 1;
             }
         }
     }
-    Put::Out(sent)
+    Ok(sent)
 }
 
 // Each of the `messages` that the row has put out, which stand from `from` on, in order, along every connector that matches, stamped with the clock; 8 for the 257th.
@@ -83,7 +82,7 @@ pub fn send_all(
     messages: usize,
     active: usize,
     count: usize,
-) -> Put
+) -> Result<usize, Refusal>
     requires { Inside state.now × (row < length (table_in state.now).rows) × T (is_time clock) × (end_of (table_in state.now) ≤ active) × (active + 1536 ≤ from) × (from + 256 ≤ length mem.old) × (messages ≤ 256) × (count ≤ 256) }
     ensures sends { Sent result active (each (send (table_in state.now) clock row) (outs_in from messages mem.old) (messages_in active count mem.old)) mem.new }
     ensures only { Only active (active + 1536) mem.old mem.new }
@@ -95,12 +94,12 @@ pub fn send_all(
         let port = word / 0x1_0000_0000;
         let content = word % 0x1_0000_0000;
         match send_one(state, mem, row, clock, port, content, active, sent) {
-            Put::Refused(refusal) => return Put::Refused(refusal),
-            Put::Out(n) => {
+            Err(refusal) => return Err(refusal),
+            Ok(n) => {
                 sent = n;
                 next += 1;
             }
         }
     }
-    Put::Out(sent)
+    Ok(sent)
 }

@@ -1,5 +1,5 @@
 -- What each call says of a buffer that holds no simulation, and of one that does. Assumes nothing.
-use Rattle.std.specs.Prelude.{ℕ, ◌≤◌, ◌<◌, ◌≡◌, true, false, List, [], ◌∷◌, ◌++◌, length, T, Float, if◌then◌else◌}
+use Rattle.std.specs.Prelude.{ℕ, ◌≤◌, ◌<◌, ◌≡◌, true, false, List, [], ◌∷◌, ◌++◌, length, T, Float, if◌then◌else◌, Err, Ok, Result, tt, ⊤}
 use Rattle.std.proofs.Math.Path.{refl}
 use Rattle.std.proofs.Common.{sym, ap, subst, ◌∙◌, arith}
 use Rattle.std.proofs.Math.ListN.{length-append}
@@ -14,8 +14,6 @@ use Rattle.rules.specs.Decides.{at-most, is_true, is_false}
 use Rattle.rules.specs.Simulation.{Simulation}
 use Rattle.rules.specs.Valid.{is_valid}
 use Rattle.rules.specs.Calls.{Ran, Refused, ended, inject_input, without_messages, at_clock_zero, reset, reset_messages, reset_global_time, get_messages, get_global_time, step, step_n, put}
-use Rattle.memory.specs.declared.Answer.{Answer}
-use Rattle.memory.specs.declared.Answer.TheVariants as answer
 use Rattle.rerunning.specs.Running.{sim_of}
 use Rattle.engine.specs.declared.Report.{Report}
 use Rattle.storing.specs.State.{is_stored, kept}
@@ -117,17 +115,17 @@ unfolding step
 step_run services room state = refl
 
 -- ---- put: 20 of the state, 20 of the room, then table intake
-pub refused-by : {A : Type 0} (o : Outcome A) (r : Refusal) → answered o ≡ answer.Refused r → o ≡ refused r
+pub refused-by : {A : Type 0} (o : Outcome A) (r : Refusal) → answered o ≡ Err r → o ≡ refused r
 refused-by (refused s) r e = ap refused (ap code e)
   where
-    code : Answer → Refusal
-    code answer.Done = r
-    code (answer.Refused q) = q
+    code : Result ⊤ Refusal → Refusal
+    code (Ok tt) = r
+    code (Err q) = q
 refused-by (done a) r e = absurd (subst IsDone e tt)
   where
-    IsDone : Answer → Type 0
-    IsDone answer.Done = Unit {0}
-    IsDone (answer.Refused q) = ⊥
+    IsDone : Result ⊤ Refusal → Type 0
+    IsDone (Ok tt) = Unit {0}
+    IsDone (Err q) = ⊥
 
 module _ (models connectors couplings state : List ℕ) where
   abbrev judge : Verdict
@@ -146,7 +144,7 @@ module _ (models connectors couplings state : List ℕ) where
     unfolding put_in simulation_in
     put_on room = rw (yes, room) refl
 
-    pub put_refused : (r : Refusal) → has_room models connectors couplings state ≡ true → answered (taken_in judge) ≡ answer.Refused r → put_in models connectors couplings state ≡ refused r
+    pub put_refused : (r : Refusal) → has_room models connectors couplings state ≡ true → answered (taken_in judge) ≡ Err r → put_in models connectors couplings state ≡ refused r
     unfolding put
     put_refused r room e = put_on room ∙ rw (valid state yes, refused-by (taken_in judge) r e) refl
 

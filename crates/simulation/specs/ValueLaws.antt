@@ -1,5 +1,5 @@
 -- A simulation posted by value: there is always room, and a refused post hands back the empty table's. Assumes nothing.
-use Rattle.std.specs.Prelude.{ℕ, ◌≤◌, ◌≡◌, true, List, [], length}
+use Rattle.std.specs.Prelude.{ℕ, ◌≤◌, ◌≡◌, true, List, [], length, Err, Ok, Result, tt, ⊤}
 use Rattle.std.proofs.Math.Path.{refl, ap}
 use Rattle.std.proofs.Common.{sym, subst, ◌∙◌, ⊎_elim, arith}
 use Rattle.std.proofs.lemmas.List.{length-replicate}
@@ -10,8 +10,6 @@ use Rattle.rules.specs.Layout.{lent}
 use Rattle.rules.specs.Simulation.{Simulation, begun, empty_table}
 use Rattle.rules.specs.Intake.{intake}
 use Rattle.rules.specs.Calls.{post}
-use Rattle.memory.specs.declared.Answer.{Answer}
-use Rattle.memory.specs.declared.Answer.TheVariants as answer
 use Rattle.storing.specs.State.{words_for}
 use Rattle.storing.specs.SizeLaws.{many-models, many-connectors, many-couplings, few-enough}
 use Rattle.storing.specs.Lent.{answered, has_room, post_in, left_anew}
@@ -36,15 +34,15 @@ module _ (models connectors couplings : List ℕ) where
   unfolding post_in
   post-any = rw room refl
 
-  is-posted : (o : Outcome Simulation) → answered o ≡ answer.Done → left_anew models connectors couplings blank o ≡ posted models connectors couplings o
+  is-posted : (o : Outcome Simulation) → answered o ≡ Ok tt → left_anew models connectors couplings blank o ≡ posted models connectors couplings o
   is-posted (refused r) e = absurd (subst NotDone (sym e) tt)
     where
-      NotDone : Answer → Type 0
-      NotDone answer.Done = Unit {0}
-      NotDone (answer.Refused q) = ⊥
+      NotDone : Result ⊤ Refusal → Type 0
+      NotDone (Ok tt) = Unit {0}
+      NotDone (Err q) = ⊥
   is-posted (done sim) e = refl
 
-  pub words-posted : answered (post_in models connectors couplings blank) ≡ answer.Done → left_anew models connectors couplings blank (post_in models connectors couplings blank) ≡ posted_words models connectors couplings
+  pub words-posted : answered (post_in models connectors couplings blank) ≡ Ok tt → left_anew models connectors couplings blank (post_in models connectors couplings blank) ≡ posted_words models connectors couplings
   unfolding posted_words
   words-posted e =
       is-posted (post_in models connectors couplings blank) e ∙ ap (posted models connectors couplings) post-any
@@ -54,7 +52,7 @@ unfolding post lent intake
 empty-posted = refl
 
 -- refused, and the empty table posted over what it left
-pub words-handed : (models connectors couplings : List ℕ) (r : Refusal) → answered (post_in models connectors couplings blank) ≡ answer.Refused r
+pub words-handed : (models connectors couplings : List ℕ) (r : Refusal) → answered (post_in models connectors couplings blank) ≡ Err r
     → (first second : List ℕ) → first ≡ left_anew models connectors couplings blank (post_in models connectors couplings blank) → second ≡ left_anew [] [] [] first (post_in [] [] [] first)
     → second ≡ posted_words models connectors couplings
 unfolding posted_words

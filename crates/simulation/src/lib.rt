@@ -12,29 +12,14 @@ ghost use Rattle.simulation.specs.Answers.{count_told, time_told};
 use asking::Status;
 use engine::Report;
 use lent_runs::Order;
-use memory::Answer;
 use rules::{Message, Refusal};
 
 mod value;
 
 pub use value::{Changed, Ran, Simulation};
 
-// How many messages are active, or a refusal.
-#[derive(Clone, Copy)]
-pub enum Listing {
-    Count(usize),
-    Refused(Refusal),
-}
-
-// The clock, or a refusal.
-#[derive(Clone, Copy)]
-pub enum Clock {
-    Time(f64),
-    Refused(Refusal),
-}
-
 // A new simulation of a table: 20, 1, 2, 3, or done. Of the state buffer it asks only the length.
-pub fn post(models: &[u64], connectors: &[u64], couplings: &[u64], state: &mut [u64]) -> Answer
+pub fn post(models: &[u64], connectors: &[u64], couplings: &[u64], state: &mut [u64]) -> Result<(), Refusal>
     ensures answers { result ≡ answered (post_in models.now connectors.now couplings.now state.old) }
     ensures leaves { state.new ≡ left_anew models.now connectors.now couplings.now state.old (post_in models.now connectors.now couplings.now state.old) }
 {
@@ -42,42 +27,42 @@ pub fn post(models: &[u64], connectors: &[u64], couplings: &[u64], state: &mut [
 }
 
 // Fresh default models of another table; messages, clock and place stay: 20, 1, 2, 3, or done.
-pub fn put(state: &mut [u64], models: &[u64], connectors: &[u64], couplings: &[u64]) -> Answer
+pub fn put(state: &mut [u64], models: &[u64], connectors: &[u64], couplings: &[u64]) -> Result<(), Refusal>
     ensures answers { result ≡ answered (put_in models.now connectors.now couplings.now state.old) }
     ensures leaves { state.new ≡ left_anew models.now connectors.now couplings.now state.old (put_in models.now connectors.now couplings.now state.old) }
 {
     if !holding::is_state(state) {
-        return Answer::Refused(Refusal::BadState);
+        return Err(Refusal::BadState);
     }
     if state.len() < storing::state_words(models.len(), connectors.len(), couplings.len()) {
-        return Answer::Refused(Refusal::BadState);
+        return Err(Refusal::BadState);
     }
     match posting::judged(models, connectors, couplings) {
-        Answer::Refused(refusal) => Answer::Refused(refusal),
-        Answer::Done => {
+        Err(refusal) => Err(refusal),
+        Ok(()) => {
             posting::replace(state, models, connectors, couplings);
-            Answer::Done
+            Ok(())
         }
     }
 }
 
 // One more active message: 20, 10, 8, or done.
-pub fn inject_input(state: &mut [u64], message: Message) -> Answer
+pub fn inject_input(state: &mut [u64], message: Message) -> Result<(), Refusal>
     ensures answers { result ≡ answered (call_in (Calls.inject_input message) state.old) }
     ensures leaves { state.new ≡ left state.old (call_in (Calls.inject_input message) state.old) }
 {
     if !holding::is_state(state) {
-        return Answer::Refused(Refusal::BadState);
+        return Err(Refusal::BadState);
     }
     let time = message.time;
     if !times::is_time(time) {
-        return Answer::Refused(Refusal::BadTime);
+        return Err(Refusal::BadTime);
     }
     if 256 <= altering::active_count(state) {
-        return Answer::Refused(Refusal::NoMessageRoom);
+        return Err(Refusal::NoMessageRoom);
     }
     altering::inject_input(state, message);
-    Answer::Done
+    Ok(())
 }
 
 // One step: its end, and its messages as rows.
@@ -117,39 +102,39 @@ pub fn step_until(
 }
 
 // Messages and clock cleared, and nothing else: 20 or done.
-pub fn reset(state: &mut [u64]) -> Answer
+pub fn reset(state: &mut [u64]) -> Result<(), Refusal>
     ensures answers { result ≡ answered (call_in Calls.reset state.old) }
     ensures leaves { state.new ≡ left state.old (call_in Calls.reset state.old) }
 {
     if !holding::is_state(state) {
-        return Answer::Refused(Refusal::BadState);
+        return Err(Refusal::BadState);
     }
     altering::reset(state);
-    Answer::Done
+    Ok(())
 }
 
 // The messages cleared, and nothing else: 20 or done.
-pub fn reset_messages(state: &mut [u64]) -> Answer
+pub fn reset_messages(state: &mut [u64]) -> Result<(), Refusal>
     ensures answers { result ≡ answered (call_in Calls.reset_messages state.old) }
     ensures leaves { state.new ≡ left state.old (call_in Calls.reset_messages state.old) }
 {
     if !holding::is_state(state) {
-        return Answer::Refused(Refusal::BadState);
+        return Err(Refusal::BadState);
     }
     altering::reset_messages(state);
-    Answer::Done
+    Ok(())
 }
 
 // The clock set to 0, and nothing else: 20 or done.
-pub fn reset_global_time(state: &mut [u64]) -> Answer
+pub fn reset_global_time(state: &mut [u64]) -> Result<(), Refusal>
     ensures answers { result ≡ answered (call_in Calls.reset_global_time state.old) }
     ensures leaves { state.new ≡ left state.old (call_in Calls.reset_global_time state.old) }
 {
     if !holding::is_state(state) {
-        return Answer::Refused(Refusal::BadState);
+        return Err(Refusal::BadState);
     }
     altering::reset_global_time(state);
-    Answer::Done
+    Ok(())
 }
 
 // The status of a model without parent: 20, 4, or the status.
@@ -163,25 +148,25 @@ pub fn get_status(state: &[u64], id: u16) -> Status
 }
 
 // The active messages as rows: 20, 13, or how many.
-pub fn get_messages(state: &[u64], rows: &mut [u64]) -> Listing
+pub fn get_messages(state: &[u64], rows: &mut [u64]) -> Result<usize, Refusal>
     ensures answers { result ≡ count_told (call_in (Calls.get_messages (room_in rows.old)) state.now) }
     ensures lays { rows.new ≡ listed rows.old (call_in (Calls.get_messages (room_in rows.old)) state.now) }
 {
     if !holding::is_state(state) {
-        return Listing::Refused(Refusal::BadState);
+        return Err(Refusal::BadState);
     }
     if rows.len() / 6 < altering::active_count(state) {
-        return Listing::Refused(Refusal::NoOutRoom);
+        return Err(Refusal::NoOutRoom);
     }
-    Listing::Count(asking::get_messages(state, rows))
+    Ok(asking::get_messages(state, rows))
 }
 
 // The clock, or 20.
-pub fn get_global_time(state: &[u64]) -> Clock
+pub fn get_global_time(state: &[u64]) -> Result<f64, Refusal>
     ensures { result ≡ time_told (call_in Calls.get_global_time state.now) }
 {
     if !holding::is_state(state) {
-        return Clock::Refused(Refusal::BadState);
+        return Err(Refusal::BadState);
     }
-    Clock::Time(asking::get_global_time(state))
+    Ok(asking::get_global_time(state))
 }

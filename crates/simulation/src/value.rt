@@ -8,10 +8,9 @@ ghost use Rattle.asking.specs.Told.{status_answered};
 ghost use Rattle.simulation.specs.Answers.{count_told, time_told};
 ghost use Rattle.simulation.specs.Values.{posted_words};
 
-use crate::{Clock, Listing};
+use crate::{Result<f64, Refusal>, Result<usize, Refusal>};
 use asking::Status;
 use engine::Report;
-use memory::Answer;
 use rules::Message;
 
 #[derive(Clone, Copy)]
@@ -23,7 +22,7 @@ pub struct Simulation {
 #[derive(Clone, Copy)]
 pub struct Changed {
     pub simulation: Simulation,
-    pub answer: Answer,
+    pub answer: Result<(), Refusal>,
 }
 
 // The simulation that a run leaves, and its report.
@@ -42,8 +41,8 @@ impl Simulation {
         let mut words = [0u64; 17286];
         let answer = crate::post(models, connectors, couplings, &mut words);
         match answer {
-            Answer::Done => {}
-            Answer::Refused(_) => {
+            Ok(()) => {}
+            Err(_) => {
                 let none = [0u64; 0];
                 crate::post(&none, &none, &none, &mut words);
             }
@@ -167,7 +166,7 @@ impl Simulation {
     }
 
     // `get_messages` by value: the same answer and rows.
-    pub fn get_messages(self, rows: &mut [u64]) -> Listing
+    pub fn get_messages(self, rows: &mut [u64]) -> Result<usize, Refusal>
         ensures answers { result ≡ count_told (call_in (Calls.get_messages (room_in rows.old)) self.words) }
         ensures lays { rows.new ≡ listed rows.old (call_in (Calls.get_messages (room_in rows.old)) self.words) }
     {
@@ -176,7 +175,7 @@ impl Simulation {
     }
 
     // `get_global_time` by value: the same answer.
-    pub fn get_global_time(self) -> Clock
+    pub fn get_global_time(self) -> Result<f64, Refusal>
         ensures { result ≡ time_told (call_in Calls.get_global_time self.words) }
     {
         let words = self.words;

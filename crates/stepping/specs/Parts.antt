@@ -1,5 +1,5 @@
 -- The parts of a step in place: a turn of a model without parent, what an advance of 0 leaves, and the parts put together. Assumes nothing.
-use Rattle.std.specs.Prelude.{ℕ, ◌+◌, ◌*◌, ◌-◌, ◌≤◌, ◌<◌, ◌≡◌, refl, Bool, true, false, List, length, Float}
+use Rattle.std.specs.Prelude.{ℕ, ◌+◌, ◌*◌, ◌-◌, ◌≤◌, ◌<◌, ◌≡◌, refl, Bool, true, false, List, length, Float, Err, Ok, Result}
 use Rattle.std.proofs.Common.{sym, ap, subst, ◌∙◌, inl, arith, eqb→eq}
 use Rattle.std.proofs.lemmas.Bool.{false≢true}
 use Rattle.std.specs.Float.Ieee.{of_bits, eq}
@@ -9,8 +9,6 @@ use Rattle.rules.specs.Base.{Outcome, refused, done, ◌>>=◌, each, from}
 use Rattle.rules.specs.Sizes.{most_active}
 use Rattle.rules.specs.Table.{Kind, processor, batcher, stopwatch, coupled, Table, kind_at, row_at, is_coupled, is_parentless}
 use Rattle.rules.specs.Step.{Happening, World, levels, due, internal, after, send, root_turn}
-use Rattle.memory.specs.declared.Put.{Put}
-use Rattle.memory.specs.declared.Put.TheVariants as put
 use Rattle.rules.specs.Ends.{nil, ◌&◌}
 use Rattle.rules.specs.Depth.{Fine}
 use Rattle.words.specs.SearchLaws.{search-hit}
@@ -39,7 +37,7 @@ module _ (t : Table) (services : List Float) (clock : Float) (i active count : �
     pub root-stops : (r : Refusal) → ((log : List Happening) → internal t services levels clock i (world_in t mem log) ≡ refused r) → (log : List Happening) → root (world_in t mem log, messages_in active count mem) ≡ refused r
     root-stops r stops log = rw (e, stops log)
 
-    pub root-goes : (from n : ℕ) (mid after : List ℕ) (r : Put) → Puts n from (internal t services levels clock i) t mem mid → messages_in active count mid ≡ messages_in active count mem
+    pub root-goes : (from n : ℕ) (mid after : List ℕ) (r : Result ℕ Refusal) → Puts n from (internal t services levels clock i) t mem mid → messages_in active count mid ≡ messages_in active count mem
         → end_of t ≤ active → Only active (active + 1536) mid after → Sent r active (each (send t clock i) (outs_in from n mid) (messages_in active count mid)) after
         → Joined r (messages_in active) most_active count root t mem after
     root-goes from n mid after r puts kept past only sent = go r sent
@@ -53,8 +51,8 @@ module _ (t : Table) (services : List Float) (clock : Float) (i active count : �
         same : (p : ℕ) → 2 ≤ p → p < end_of t → word_at after p ≡ word_at mid p
         same p l u = only.rest p (inl (omega arith))
 
-        go : (r : Put) → Sent r active (each (send t clock i) (outs_in from n mid) (messages_in active count mid)) after → Joined r (messages_in active) most_active count root t mem after
-        go (put.Out m) s = record {
+        go : (r : Result ℕ Refusal) → Sent r active (each (send t clock i) (outs_in from n mid) (messages_in active count mid)) after → Joined r (messages_in active) most_active count root t mem after
+        go (Ok m) s = record {
           ready = far-ready t mid after only.long same puts.ready;
           few = s.few;
           more = puts.more;
@@ -62,7 +60,7 @@ module _ (t : Table) (services : List Float) (clock : Float) (i active count : �
               onto log ∙ ap (λ (o : Outcome (List Message)). o >>= last (world_in t mid (puts.more log))) s.is
               ∙ ap (λ (w : World). done (w, messages_in active m after)) (sym (far-world t mid after only.long same (puts.more log)));
         }
-        go (put.Refused q) s = λ log. onto log ∙ ap (λ (o : Outcome (List Message)). o >>= last (world_in t mid (puts.more log))) s
+        go (Err q) s = λ log. onto log ∙ ap (λ (o : Outcome (List Message)). o >>= last (world_in t mid (puts.more log))) s
 
 -- the messages sent so far stand below what the model's event writes
 pub sent-kept : (t : Table) (lo hi active count : ℕ) (mem mid : List ℕ) → end_of t ≤ active → active + count * 6 ≤ lo → Frame t lo hi mem mid → messages_in active count mid ≡ messages_in active count mem

@@ -1,5 +1,5 @@
 -- The simulation that stands in the words, and what a step in place answers. Definitions only. Assumes nothing.
-use Rattle.std.specs.Prelude.{ℕ, ◌+◌, ◌≤◌, ◌≡◌, List, [], length, T, Float}
+use Rattle.std.specs.Prelude.{ℕ, ◌+◌, ◌≤◌, ◌≡◌, List, [], length, T, Float, Err, Ok, Result, tt, ⊤}
 use Rattle.std.specs.Float.{binary64}
 use Rattle.std.specs.Float.Ieee.{of_bits}
 use Rattle.times.specs.Time.{is_time}
@@ -15,8 +15,6 @@ use Rattle.rules.proofs.Worlds.{MessageFits}
 use Rattle.memory.specs.Words.{word_at, place_in}
 use Rattle.views.specs.World.{end_of, states_in, world_in, Ready}
 use Rattle.views.specs.Messages.{messages_in}
-use Rattle.memory.specs.declared.Answer.{Answer}
-use Rattle.memory.specs.declared.Answer.TheVariants as answer
 use Rattle.stepping.specs.declared.Stepped.{Stepped}
 use Rattle.stepping.specs.declared.Stepped.TheVariants as stepped
 
@@ -67,6 +65,6 @@ pub record Closes (t : Table) (services : List Float) (clock : Float) (mem after
   pub more : List Happening → List Happening
   pub is : (log : List Happening) → (turns_of t services clock (world_in t mem log, []) >>= closing t clock) ≡ done (sim_in t after, more log)
 
-abbrev pub Closed : Answer → Table → List Float → Float → List ℕ → List ℕ → Type 0
-Closed answer.Done t services clock mem after = Closes t services clock mem after
-Closed (answer.Refused r) t services clock mem after = (log : List Happening) → turns_of t services clock (world_in t mem log, []) ≡ refused r
+abbrev pub Closed : Result ⊤ Refusal → Table → List Float → Float → List ℕ → List ℕ → Type 0
+Closed (Ok tt) t services clock mem after = Closes t services clock mem after
+Closed (Err r) t services clock mem after = (log : List Happening) → turns_of t services clock (world_in t mem log, []) ≡ refused r

@@ -1,5 +1,5 @@
 -- A step in place, its parts put together: with messages active, and without. Assumes nothing.
-use Rattle.std.specs.Prelude.{ℕ, zero, suc, ◌+◌, ◌≤◌, ◌<◌, ◌≡◌, true, false, length, set, T, Float, if◌then◌else◌}
+use Rattle.std.specs.Prelude.{ℕ, zero, suc, ◌+◌, ◌≤◌, ◌<◌, ◌≡◌, true, false, length, set, T, Float, if◌then◌else◌, Result, ⊤}
 use Rattle.std.proofs.Math.Path.{refl, ap}
 use Rattle.std.proofs.Common.{sym, subst, ◌∙◌, inl, inr, arith, length-set, get_or-set_same, get_or-set_other}
 use Rattle.std.proofs.lemmas.Bool.{false≢true}
@@ -24,7 +24,6 @@ use Rattle.rules.proofs.Least.{fits-timer, own_timer}
 use Rattle.rules.proofs.Worlds.{Stepped, step_on-keeps}
 use Rattle.rules.proofs.Runs.{NotTwenty, any-closed}
 use Rattle.rules.proofs.Exactly.{taken_none}
-use Rattle.memory.specs.declared.Answer.{Answer}
 use Rattle.memory.specs.Words.{word_at, place_in}
 use Rattle.views.specs.World.{end_of, states_in, world_in, Ready, Moves, Does}
 use Rattle.views.proofs.Outside.{far-world, far-ready}
@@ -163,14 +162,14 @@ close-done t services clock time mem fin after active n bits e is-bits room is j
     (let k = subst (λ (at : ℕ). Joins (messages_in at) most_active n 0 (turns_of t services clock) t mem fin) e j in
     record { ready = stamped-ready t clock time n bits is-bits fin room k.ready; more = k.more; is = closes t clock time n bits is-bits fin room services mem k })
 
-pub taken_as : (t : Table) (services : List Float) (mem mid : List ℕ) (clock : Float) (active count : ℕ) (r : Answer) → clock ≡ clock_in mem → active ≡ end_of t → count ≡ word_at mem 0
+pub taken_as : (t : Table) (services : List Float) (mem mid : List ℕ) (clock : Float) (active count : ℕ) (r : Result ⊤ Refusal) → clock ≡ clock_in mem → active ≡ end_of t → count ≡ word_at mem 0
     → Does r (taken t services clock (messages_in active count mem)) t mem mid → Does r (taken t services (clock_in mem) (active_in t mem)) t mem mid
 taken_as t services mem mid clock active count r c a n d =
     subst (λ (x : Float). Does r (taken t services x (active_in t mem)) t mem mid) c
     (subst (λ (at : ℕ). Does r (taken t services clock (messages_in at (word_at mem 0) mem)) t mem mid) a
     (subst (λ (k : ℕ). Does r (taken t services clock (messages_in active k mem)) t mem mid) n d))
 
-pub closed-as : (t : Table) (services : List Float) (clock other : Float) (mem after : List ℕ) (r : Answer) → clock ≡ other → Closed r t services clock mem after → Closed r t services other mem after
+pub closed-as : (t : Table) (services : List Float) (clock other : Float) (mem after : List ℕ) (r : Result ⊤ Refusal) → clock ≡ other → Closed r t services clock mem after → Closed r t services other mem after
 closed-as t services clock other mem after r e c = subst (λ (x : Float). Closed r t services x mem after) e c
 
 -- what comes of the turns comes of the step

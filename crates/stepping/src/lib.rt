@@ -14,10 +14,7 @@ ghost use Rattle.model_events.specs.Events.{Scene, Event};
 ghost use Rattle.stepping.specs.Simulating.{clock_in, turns_of, Sound, Steps, Closed};
 ghost use Rattle.stepping.specs.Whole.{stamped};
 
-use memory::{Answer, Put};
 use rules::Refusal;
-use times::{Later, TimeOf};
-use words::Found;
 
 // What a step in place answers. Refused halfway, the words hold no simulation that is to be kept.
 #[derive(Clone, Copy)]
@@ -33,8 +30,8 @@ pub fn clock_at(mem: &[u64]) -> f64
     ensures { result ≡ clock_in mem.now }
 {
     match times::time_of_bits(mem[1]) {
-        TimeOf::Time(clock) => clock,
-        TimeOf::Bad => 0.0,
+        Some(clock) => clock,
+        None => 0.0,
     }
 }
 
@@ -56,25 +53,25 @@ fn root_turn(
     row: usize,
     active: usize,
     count: usize,
-) -> Put
+) -> Result<usize, Refusal>
     requires { Event state.now mem.old clock row × Deep (table_in state.now) 5 row × (end_of (table_in state.now) ≤ active) × (active + 2816 ≤ length mem.old) × (count ≤ 256) }
     ensures joins { Joined result (messages_in active) 256 count (Step.root_turn (table_in state.now) services.now clock row) (table_in state.now) mem.old mem.new }
     ensures frame { Frame (table_in state.now) active (length mem.old) mem.old mem.new }
 {
     if !model_events::is_due(state, mem, 5, row) {
-        return Put::Out(count);
+        return Ok(count);
     }
     let at = active + 1536;
     match internal_events::internal(state, services, mem, 5, clock, row, at) {
-        Put::Refused(refusal) => Put::Refused(refusal),
-        Put::Out(messages) => {
+        Err(refusal) => Err(refusal),
+        Ok(messages) => {
             sending::send_all(state, mem, row, clock, at, messages, active, count)
         }
     }
 }
 
 // Each model without parent in row order. A row whose timer's word is not 0 is not due.
-fn root_turns(state: &[u64], services: &[f64], mem: &mut [u64], clock: f64, active: usize) -> Put
+fn root_turns(state: &[u64], services: &[f64], mem: &mut [u64], clock: f64, active: usize) -> Result<usize, Refusal>
     requires { Scene state.now mem.old clock × (end_of (table_in state.now) ≤ active) × (active + 2816 ≤ length mem.old) }
     ensures joins { Joined result (messages_in active) 256 0 (turns_of (table_in state.now) services.now clock) (table_in state.now) mem.old mem.new }
     ensures frame { Frame (table_in state.now) active (length mem.old) mem.old mem.new }
@@ -85,31 +82,31 @@ fn root_turns(state: &[u64], services: &[f64], mem: &mut [u64], clock: f64, acti
     while from < end {
         let ripe = row_timers::next_at_zero(state, mem, from);
         match lookup::next_parentless(state, ripe) {
-            Found::Nothing => return Put::Out(count),
-            Found::At(row) => {
+            None => return Ok(count),
+            Some(row) => {
                 match root_turn(state, services, mem, clock, row, active, count) {
-                    Put::Out(messages) => count = messages,
-                    Put::Refused(refusal) => return Put::Refused(refusal),
+                    Ok(messages) => count = messages,
+                    Err(refusal) => return Err(refusal),
                 }
                 from = row + 1;
             }
         }
     }
-    Put::Out(count)
+    Ok(count)
 }
 
 // The turns, at the new clock; then the messages sent replace the active ones.
-fn close(state: &[u64], services: &[f64], mem: &mut [u64], clock: f64, active: usize) -> Answer
+fn close(state: &[u64], services: &[f64], mem: &mut [u64], clock: f64, active: usize) -> Result<(), Refusal>
     requires { Scene state.now mem.old clock × (active ≡ end_of (table_in state.now)) × (active + 2816 ≤ length mem.old) }
     ensures closes { Closed result (table_in state.now) services.now clock mem.old mem.new }
     ensures long { length mem.new ≡ length mem.old }
 {
     match root_turns(state, services, mem, clock, active) {
-        Put::Refused(refusal) => Answer::Refused(refusal),
-        Put::Out(count) => {
+        Err(refusal) => Err(refusal),
+        Ok(count) => {
             let bits = times::bits_of(clock);
             stamp(mem, count as u64, bits);
-            Answer::Done
+            Ok(())
         }
     }
 }
@@ -131,12 +128,12 @@ fn advance_step(
         return Stepped::Untouched(Refusal::Idle);
     }
     match times::advance_clock(clock, advance) {
-        Later::Overflow => Stepped::Untouched(Refusal::ClockOverflow),
-        Later::Clock(next) => {
+        None => Stepped::Untouched(Refusal::ClockOverflow),
+        Some(next) => {
             row_timers::pass(state, mem, advance);
             match close(state, services, mem, next, active) {
-                Answer::Done => Stepped::Done,
-                Answer::Refused(refusal) => Stepped::Halfway(refusal),
+                Ok(()) => Stepped::Done,
+                Err(refusal) => Stepped::Halfway(refusal),
             }
         }
     }
@@ -156,10 +153,10 @@ fn message_step(
 {
     let count = mem[0] as usize;
     match taking::take_all(state, services, mem, clock, active, count) {
-        Answer::Refused(refusal) => Stepped::Halfway(refusal),
-        Answer::Done => match close(state, services, mem, clock, active) {
-            Answer::Done => Stepped::Done,
-            Answer::Refused(refusal) => Stepped::Halfway(refusal),
+        Err(refusal) => Stepped::Halfway(refusal),
+        Ok(()) => match close(state, services, mem, clock, active) {
+            Ok(()) => Stepped::Done,
+            Err(refusal) => Stepped::Halfway(refusal),
         },
     }
 }

@@ -1,5 +1,5 @@
 -- Words that are laid out as the table says are those that the layout makes of the simulation in them: a row's own words, its head, all rows, the whole. Assumes nothing.
-use Rattle.std.specs.Prelude.{ℕ, zero, suc, ◌+◌, ◌-◌, ◌*◌, ◌/◌, ◌^◌, ◌≤◌, ◌<◌, ◌≡◌, refl, Bool, List, [], ◌∷◌, ◌++◌, map, length, get_or, take, drop, T, leb, eqb}
+use Rattle.std.specs.Prelude.{ℕ, zero, suc, ◌+◌, ◌-◌, ◌*◌, ◌/◌, ◌^◌, ◌≤◌, ◌<◌, ◌≡◌, refl, Bool, List, [], ◌∷◌, ◌++◌, map, length, get_or, take, drop, T, leb, eqb, Float, None, Option, Some}
 use Rattle.std.proofs.Common.{sym, ap, subst, ◌∙◌, inl, inr, add-zero, zero-add, div-add-mod', arith, length-drop, take-append-drop, length-take-le, drop-cons, drop-drop, take-add, take_all, leb→le, ltb→lt, eqb→eq}
 use Rattle.std.proofs.lemmas.Simd.{map-map}
 use Rattle.std.proofs.Math.Nat.{div-div-eq-div-mul}
@@ -13,8 +13,6 @@ use Rattle.times.proofs.Laws.{timer-split, timer-clear, time-timer}
 use Rattle.times.proofs.Patterns.{clear-bits}
 use Rattle.times.specs.Answers.{time_of_bits}
 use Rattle.times.proofs.AnswerLaws.{bad-says, bits-kept}
-use Rattle.times.specs.declared.TimeOf.{TimeOf}
-use Rattle.times.specs.declared.TimeOf.TheVariants.{Time, Bad}
 use Rattle.rules.specs.Base.{every, from}
 use Rattle.rules.specs.Table.{Kind, processor, batcher, stopwatch, coupled, Table, kind_at}
 use Rattle.rules.specs.Simulation.{Marks, State}
@@ -91,9 +89,9 @@ module _ (words : List ℕ) where
 mark-kept : (word : ℕ) → T (mark_fits word) → mark_word (mark_in word) ≡ word
 mark-kept word t = go (time_of_bits word) refl
   where
-    go : (read : TimeOf) → time_of_bits word ≡ read → mark_word (time_in read) ≡ word
-    go (Time x) e = bits-kept word x e
-    go Bad e = elim (timer-split (of_bits binary64 word) t) [
+    go : (read : Option Float) → time_of_bits word ≡ read → mark_word (time_in read) ≡ word
+    go (Some x) e = bits-kept word x e
+    go None e = elim (timer-split (of_bits binary64 word) t) [
       | inl u ↦ absurd (subst T (bad-says word e) u)
       | inr n ↦ ap (to_bits binary64) (sym n) ∙ clear-bits word (timer-clear (of_bits binary64 word) t)
     ]

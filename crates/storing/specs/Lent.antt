@@ -1,13 +1,12 @@
 -- The calls on a lent state, and the lent memory after them, for every buffer. Definitions only. Assumes nothing.
-use Rattle.std.specs.Prelude.{ℕ, Bool, List, length, leb, if◌then◌else◌}
+use Rattle.std.specs.Prelude.{ℕ, Bool, List, length, leb, if◌then◌else◌, Err, Ok, Result, tt, ⊤}
+use Rattle.rules.specs.declared.Refusal.{Refusal}
 use Rattle.rules.specs.declared.Refusal.TheVariants.{BadState}
 use Rattle.rules.specs.declared.Message.{Message}
 use Rattle.rules.specs.Base.{Outcome, refused, done, ◌>>=◌}
 use Rattle.rules.specs.Layout.{lent, laid_down}
 use Rattle.rules.specs.Simulation.{Simulation}
 use Rattle.rules.specs.Calls.{Ran, Refused, ended, post, put}
-use Rattle.memory.specs.declared.Answer.{Answer}
-use Rattle.memory.specs.declared.Answer.TheVariants as answer
 use Rattle.rerunning.specs.Running.{sim_of}
 use Rattle.storing.specs.State.{laid_state, over, kept, words_for, is_stored}
 
@@ -20,9 +19,9 @@ abbrev pub call_in : {A : Type 0} → (Simulation → Outcome A) → List ℕ �
 call_in call state = simulation_in state >>= call
 
 -- ---- "A refused call returns its number and changes neither the simulation .. nor any lent buffer."
-abbrev pub answered : {A : Type 0} → Outcome A → Answer
-answered (refused r) = answer.Refused r
-answered (done a) = answer.Done
+abbrev pub answered : {A : Type 0} → Outcome A → Result ⊤ Refusal
+answered (refused r) = Err r
+answered (done a) = Ok tt
 
 abbrev pub left : List ℕ → Outcome Simulation → List ℕ
 left state (refused r) = state

@@ -1,12 +1,10 @@
 -- A loop of events in place that append to a list beside the world (messages put out, messages sent): where it stands, what each turn does, and what it has done at its end. Assumes nothing.
-use Rattle.std.specs.Prelude.{ℕ, ◌+◌, ◌-◌, ◌≤◌, ◌≡◌, Bool, List}
+use Rattle.std.specs.Prelude.{ℕ, ◌+◌, ◌-◌, ◌≤◌, ◌≡◌, Bool, List, Err, None, Some}
 use Rattle.rules.specs.declared.Refusal.{Refusal}
 use Rattle.rules.specs.Base.{Outcome, refused, each, those, from}
 use Rattle.rules.specs.Table.{Table}
 use Rattle.rules.specs.Step.{Happening, World}
-use Rattle.words.specs.declared.Found.TheVariants.{At, Nothing}
 use Rattle.words.specs.Search.{first_from}
-use Rattle.memory.specs.declared.Put.TheVariants as put
 use Rattle.views.specs.World.{world_in, Ready, Frame}
 use Rattle.views.proofs.Frames.{frame_same, frame_then}
 use Rattle.views.specs.Messages.{Joins, Joined}
@@ -36,7 +34,7 @@ module _ {X : Type 0} (t : Table) (read : ℕ → List ℕ → List X) (most : �
   }
 
   module _ (row : ℕ) (mem : List ℕ) (count : ℕ) (g : Adding row mem count) where
-    pub adding-on : (j n : ℕ) (after : List ℕ) → first_from test row (end - row) ≡ At j → Joins read most n count (visit j) t mem after → Frame t lo hi mem after → Adding (j + 1) after n
+    pub adding-on : (j n : ℕ) (after : List ℕ) → first_from test row (end - row) ≡ Some j → Joins read most n count (visit j) t mem after → Frame t lo hi mem after → Adding (j + 1) after n
     adding-on j n after found m f = record {
       ready = m.ready;
       few = m.few;
@@ -44,13 +42,13 @@ module _ {X : Type 0} (t : Table) (read : ℕ → List ℕ → List X) (most : �
       onward = onward-on visit test row end (λ log. all-adding (beside mem₀ count₀ log)) (beside mem count) g.onward j (beside after n) found (record { more = m.more; is = m.is });
     }
 
-    pub adding-stops : (j : ℕ) (r : Refusal) (after : List ℕ) → first_from test row (end - row) ≡ At j → Joined (put.Refused r) read most count (visit j) t mem after → (log : List Happening) → all-adding (beside mem₀ count₀ log) ≡ refused r
+    pub adding-stops : (j : ℕ) (r : Refusal) (after : List ℕ) → first_from test row (end - row) ≡ Some j → Joined (Err r) read most count (visit j) t mem after → (log : List Happening) → all-adding (beside mem₀ count₀ log) ≡ refused r
     adding-stops j r after found s = onward_stops visit test row end (λ log. all-adding (beside mem₀ count₀ log)) (beside mem count) g.onward j r found s
 
     added : Leads (λ log. all-adding (beside mem₀ count₀ log)) (λ log. log) (beside mem count) → Joins read most count count₀ all-adding t mem₀ mem
     added l = record { ready = g.ready; few = g.few; more = l.more; is = l.is }
 
-    pub adding-none : first_from test row (end - row) ≡ Nothing → Joins read most count count₀ all-adding t mem₀ mem
+    pub adding-none : first_from test row (end - row) ≡ None → Joins read most count count₀ all-adding t mem₀ mem
     adding-none found = added (onward-none visit test row end (λ log. all-adding (beside mem₀ count₀ log)) (beside mem count) g.onward found)
 
     pub adding-end : end ≤ row → Joins read most count count₀ all-adding t mem₀ mem

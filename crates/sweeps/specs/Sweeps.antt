@@ -1,11 +1,10 @@
 -- A loop in place is the rules' sweep: `whole` is what is left of it from `here` on, whatever the log. One set of laws for every loop over places that a search finds. Assumes nothing.
-use Rattle.std.specs.Prelude.{ℕ, suc, ◌+◌, ◌-◌, ◌≤◌, ◌<◌, ◌≡◌, Bool, false, List}
+use Rattle.std.specs.Prelude.{ℕ, suc, ◌+◌, ◌-◌, ◌≤◌, ◌<◌, ◌≡◌, Bool, false, List, None, Some}
 use Rattle.std.proofs.Common.{sym, ap, ◌∙◌, arith, add-one}
 use Rattle.std.proofs.Math.Nat.{sub-zero}
 use Rattle.rules.specs.declared.Refusal.{Refusal}
 use Rattle.rules.specs.Base.{Outcome, refused, done, ◌>>=◌, each, those, from}
 use Rattle.rules.specs.Step.{Happening}
-use Rattle.words.specs.declared.Found.TheVariants.{At, Nothing}
 use Rattle.words.specs.Search.{first_from}
 use Rattle.words.specs.SearchLaws.{search-end}
 use Rattle.selection.specs.Selected.{sweep-on, sweep-end}
@@ -37,7 +36,7 @@ module _ {S : Type 0} (visit : ℕ → S → Outcome S) where
 
   module _ (test : ℕ → Bool) (row end : ℕ) (whole : At-log (Outcome S)) (here : At-log S) (so_far : Onward visit (those test (from row (end - row))) whole here) where
     -- the next one is visited
-    pub onward-on : (j : ℕ) (there : At-log S) → first_from test row (end - row) ≡ At j → Leads (visit j) here there → Onward visit (those test (from (j + 1) (end - (j + 1)))) whole there
+    pub onward-on : (j : ℕ) (there : At-log S) → first_from test row (end - row) ≡ Some j → Leads (visit j) here there → Onward visit (those test (from (j + 1) (end - (j + 1)))) whole there
     onward-on j there found leads = record {
       more = λ log. leads.more (so_far.more log);
       is = λ log.
@@ -46,7 +45,7 @@ module _ {S : Type 0} (visit : ℕ → S → Outcome S) where
     }
 
     -- and refuses
-    pub onward_stops : (j : ℕ) (r : Refusal) → first_from test row (end - row) ≡ At j → Stops (visit j) here r → (log : List Happening) → whole log ≡ refused r
+    pub onward_stops : (j : ℕ) (r : Refusal) → first_from test row (end - row) ≡ Some j → Stops (visit j) here r → (log : List Happening) → whole log ≡ refused r
     onward_stops j r found stops log =
         so_far.is log ∙ sweep-on visit test row end (here (so_far.more log)) j found
         ∙ ap (λ (o : Outcome S). o >>= each visit (those test (from (j + 1) (end - (j + 1))))) (stops (so_far.more log))
@@ -59,7 +58,7 @@ module _ {S : Type 0} (visit : ℕ → S → Outcome S) where
     }
 
     -- none is left
-    pub onward-none : first_from test row (end - row) ≡ Nothing → Leads whole (λ log. log) here
+    pub onward-none : first_from test row (end - row) ≡ None → Leads whole (λ log. log) here
     onward-none found = record { more = so_far.more; is = λ log. so_far.is log ∙ sweep-end visit test row end (here (so_far.more log)) found }
 
     pub onward-end : end ≤ row → Leads whole (λ log. log) here

@@ -1,5 +1,5 @@
 -- The bounds of a cell, tests on ports, and lists of tests, said in the code's terms. Assumes nothing.
-use Rattle.std.specs.Prelude.{if◌then◌else◌}
+use Rattle.std.specs.Prelude.{if◌then◌else◌, Some}
 use Prim.Native.Nat.{ℕ, zero, suc, ◌+◌, ◌-◌, ◌*◌, ◌/◌, ◌≤◌, ◌<◌, ◌^◌}
 use mathlib.Core.Path.{◌≡◌, refl, sym, ap, ◌∙◌}
 use mathlib.Core.Bool.{Bool, true, false, not}
@@ -22,7 +22,6 @@ use Rattle.rules.specs.declared.Metric.TheVariants.{Minimum, Maximum}
 use Rattle.times.specs.Time.{is_time}
 use Rattle.times.specs.Answers.{time_of_bits}
 use Rattle.times.proofs.AnswerLaws.{time-says}
-use Rattle.times.specs.declared.TimeOf.TheVariants.{Time}
 use Rattle.rules.specs.Base.{hold, some_of}
 use Rattle.rules.specs.Table as Table
 use Rattle.rules.specs.Layout.{cell, is_given, metric_in}
@@ -80,7 +79,7 @@ pub ports-left : (t : Bool) {a b c d : ℕ} (m : Metric) → a ≤ 65535 → b �
 ports-left t {a} {b} {c} {d} m p q r s e = rw (port-fits a p, port-fits b q, port-fits c r, port-fits d s, e)
 
 -- ---- a time that was read
-pub time-read : (bits : ℕ) (x : Float) → time_of_bits bits ≡ Time x → (is_time (of_bits binary64 bits) ≡ true) × (x ≡ of_bits binary64 bits)
+pub time-read : (bits : ℕ) (x : Float) → time_of_bits bits ≡ Some x → (is_time (of_bits binary64 bits) ≡ true) × (x ≡ of_bits binary64 bits)
 time-read bits x e = let z = time-says bits x e in (ap is_time (sym z.1) ∙ is_true (is_time x) z.0, z.1)
 
 -- ---- a stopwatch's metric: word 8, or 0 where it is omitted

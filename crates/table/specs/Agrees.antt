@@ -1,6 +1,6 @@
 -- The tests of the words agree with the rules of intake: each row's, and so the first bad row of each part, and the verdict. Assumes nothing.
 use Prim.Native.Nat.{ℕ, zero, suc}
-use Rattle.std.specs.Prelude.{◌≡◌, refl, Bool, false, ◌&&◌, List, [], ◌∷◌, ◌++◌, map, length, T, ltb, eqb, if◌then◌else◌}
+use Rattle.std.specs.Prelude.{◌≡◌, refl, Bool, false, ◌&&◌, List, [], ◌∷◌, ◌++◌, map, length, T, ltb, eqb, if◌then◌else◌, None, Some}
 use Rattle.std.proofs.Math.Path.{sym}
 use Rattle.std.proofs.Common.{ap, ◌∙◌, subst, true≢false, arith, eqb→eq}
 use Rattle.std.proofs.Math.Bool.{true, not}
@@ -17,8 +17,6 @@ use Rattle.rules.specs.Intake.{kind_rules, is_new, parent_fits, depth_fits, row_
 use Rattle.rules.specs.Ends.{no-some, if-both, one}
 use Rattle.rules.specs.Layout.{cell, parent_in, capacity_in, metric_in, stopwatch_in, kind_in, model_width, connector_width, coupling_width, model_row, connector_row, coupling_row, whole_coupling}
 use Rattle.rules.specs.Layout as Layout
-use Rattle.words.specs.declared.Found.{Found}
-use Rattle.words.specs.declared.Found.TheVariants.{At, Nothing}
 use Rattle.words.specs.Search.{first_from}
 use Rattle.table.specs.declared.Kind.TheVariants.{Broken}
 use Rattle.table.specs.Readers.{row_of, named, kind_of}
@@ -33,12 +31,12 @@ keeps-where : {A : Type 0} (rules : A → List Bool) (b : Bool) (x : A) → keep
 keeps-where rules true x = refl
 keeps-where rules false x = refl
 
-abbrev pub place_of : Found → Option ℕ
-place_of (At k) = some k
-place_of Nothing = none
+abbrev pub place_of : Option ℕ → Option ℕ
+place_of (Some k) = some k
+place_of None = none
 
 -- ---- the first bad row, by a test of each
-pick-place : (b : Bool) (k : ℕ) (rest : Found) → (if b then place_of rest else some k) ≡ place_of (if not b then At k else rest)
+pick-place : (b : Bool) (k : ℕ) (rest : Option ℕ) → (if b then place_of rest else some k) ≡ place_of (if not b then Some k else rest)
 pick-place true k rest = refl
 pick-place false k rest = refl
 
@@ -47,7 +45,7 @@ first-bad-is rules f k zero = refl
 first-bad-is {A} rules f k (suc n) = go (f k) (first-bad-is rules f (suc k) n)
   where
     go : (o : Option A) → first_bad rules (suc k) (map f (from (suc k) n)) ≡ place_of (first_from (λ j. not (keeps rules (f j))) (suc k) n)
-        → first_bad rules k (o ∷ map f (from (suc k) n)) ≡ place_of (if not (keeps rules o) then At k else first_from (λ j. not (keeps rules (f j))) (suc k) n)
+        → first_bad rules k (o ∷ map f (from (suc k) n)) ≡ place_of (if not (keeps rules o) then Some k else first_from (λ j. not (keeps rules (f j))) (suc k) n)
     go none e = refl
     go (some x) e = rw e (pick-place (hold (rules x)) k (first_from (λ j. not (keeps rules (f j))) (suc k) n))
 
@@ -64,12 +62,12 @@ pub rows-first : (models : List ℕ) (k n : ℕ) → first_bad_row k (earlier_in
 rows-first models k zero = refl
 rows-first models k (suc n) = go (model_row (row_of model_width models k)) (read (row_of model_width models k) (kind_in (row_of model_width models k))) (rows-first models (suc k) n)
   where
-    rest : Found
+    rest : Option ℕ
     rest = first_from (λ j. not (keeps (row_rules (earlier_in models j)) (model_row (row_of model_width models j)))) (suc k) n
 
     go : (o : Option Table.Row) → ((r : Table.Row) → o ≡ some r → row_in models k ≡ r)
         → first_bad_row (suc k) (row_in models k ∷ earlier_in models k) (map (λ j. model_row (row_of model_width models j)) (from (suc k) n)) ≡ place_of rest
-        → first_bad_row k (earlier_in models k) (o ∷ map (λ j. model_row (row_of model_width models j)) (from (suc k) n)) ≡ place_of (if not (keeps (row_rules (earlier_in models k)) o) then At k else rest)
+        → first_bad_row k (earlier_in models k) (o ∷ map (λ j. model_row (row_of model_width models j)) (from (suc k) n)) ≡ place_of (if not (keeps (row_rules (earlier_in models k)) o) then Some k else rest)
     go none f e = refl
     go (some r) f e = rw (rw (f r refl) at e) (pick-place (hold (row_rules (earlier_in models k) r)) k rest)
 

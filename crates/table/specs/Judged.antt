@@ -1,5 +1,5 @@
 -- The verdict on a lent table is that of its words: sizes, then the first bad row of each part. Assumes nothing.
-use Rattle.std.specs.Prelude.{ℕ, zero, suc, ◌+◌, ◌*◌, ◌/◌, ◌≤◌, ◌<◌, ◌≡◌, refl, Bool, true, false, ◌&&◌, length, leb, if◌then◌else◌}
+use Rattle.std.specs.Prelude.{ℕ, zero, suc, ◌+◌, ◌*◌, ◌/◌, ◌≤◌, ◌<◌, ◌≡◌, refl, Bool, true, false, ◌&&◌, length, leb, if◌then◌else◌, None, Some}
 use Rattle.std.proofs.Common.{sym, ◌∙◌, subst, add-zero, zero-add, arith, le-leb}
 use Rattle.std.proofs.Math.Path.{ap}
 use Rattle.std.proofs.Math.Bool.{not}
@@ -18,8 +18,6 @@ use Rattle.rules.specs.Intake.{Posted, size_rules, row_rules, connector_rules, c
 use Rattle.rules.specs.Layout.{cell, rows_of, model_width, connector_width, coupling_width, model_row, connector_row, coupling_row, kind_in, lent}
 use Rattle.rules.specs.Decides.{whole-some}
 use Rattle.words.specs.Lists.{map-from}
-use Rattle.words.specs.declared.Found.{Found}
-use Rattle.words.specs.declared.Found.TheVariants.{At, Nothing}
 use Rattle.words.specs.Search.{first_from}
 use Rattle.words.specs.SearchLaws.{found-not}
 use Rattle.table.specs.declared.Part.{Part}
@@ -48,12 +46,12 @@ connectors-agree models connectors =
     ∙ (λ i. place_of (first_from (λ k. not (connector-keeps-is (row_of connector_width connectors k) i)) 0 n))
 
 -- ---- where no row is bad
-all_keep : (f : ℕ → Bool) (k n : ℕ) → first_from (λ j. not (f j)) k n ≡ Nothing → (j : ℕ) → j < n → f (k + j) ≡ true
+all_keep : (f : ℕ → Bool) (k n : ℕ) → first_from (λ j. not (f j)) k n ≡ None → (j : ℕ) → j < n → f (k + j) ≡ true
 all_keep f k zero e j l = absurd (omega arith)
 all_keep f k (suc n) e j l = go (f k) refl e j l (all_keep f (suc k) n)
   where
-    go : (b : Bool) → f k ≡ b → (if not b then At k else first_from (λ j. not (f j)) (suc k) n) ≡ Nothing → (j : ℕ) → j < suc n
-        → (first_from (λ j. not (f j)) (suc k) n ≡ Nothing → (j : ℕ) → j < n → f (suc k + j) ≡ true) → f (k + j) ≡ true
+    go : (b : Bool) → f k ≡ b → (if not b then Some k else first_from (λ j. not (f j)) (suc k) n) ≡ None → (j : ℕ) → j < suc n
+        → (first_from (λ j. not (f j)) (suc k) n ≡ None → (j : ℕ) → j < n → f (suc k + j) ≡ true) → f (k + j) ≡ true
     go false t e j l later = absurd (found-not k e)
     go true t e zero l later = rw add-zero t
     go true t e (suc j) l later = let m : suc k + j ≡ k + suc j = omega arith in rw m at (later e j (omega arith))
@@ -67,10 +65,10 @@ lines-whole f g width words read =
     ∙ whole-some (map g ks)
 
 -- the rows of a part in which none is bad keep their rules
-pub all-kept : (part : Part) (models words : List ℕ) → first_bad_in part models words ≡ Nothing → (k : ℕ) → k < count_of (width_of part) words → keeps_in part models words k ≡ true
+pub all-kept : (part : Part) (models words : List ℕ) → first_bad_in part models words ≡ None → (k : ℕ) → k < count_of (width_of part) words → keeps_in part models words k ≡ true
 all-kept part models words fine k l = rw zero-add at (all_keep (keeps_in part models words) 0 (count_of (width_of part) words) fine k l)
 
-module _ (models : List ℕ) (fine : first_bad_in Models models models ≡ Nothing) where
+module _ (models : List ℕ) (fine : first_bad_in Models models models ≡ None) where
   pub row_kept : (k : ℕ) → k < count_of model_width models → row_keeps models k ≡ true
   unfolding keeps_in
   row_kept = all-kept Models models models fine
@@ -111,7 +109,7 @@ module _ (models couplings : List ℕ) where
   unfolding coupling_keeps owner_fits
   coupling-order n row = rw (some-order (λ r. eqb r.id (cell row 0) && is_coupled r.kind) n, some-order (is_child (cell row 0) (cell row 4)) n)
 
-  pub couplings-agree : first_bad_in Models models models ≡ Nothing
+  pub couplings-agree : first_bad_in Models models models ≡ None
       → first_bad (coupling_rules (whole (map model_row (rows_of model_width models)))) 0 (map coupling_row (rows_of coupling_width couplings)) ≡ place_of (first_bad_in Couplings models couplings)
   unfolding keeps_in
   couplings-agree fine =
@@ -126,19 +124,19 @@ module _ (models couplings : List ℕ) where
 
 -- ---- the verdict
 -- what was found in the three parts, in their order
-abbrev pub judged : Found → Found → Found → Verdict
-judged (At k) y z = BadRow k
-judged Nothing (At k) z = BadConnector k
-judged Nothing Nothing (At k) = BadCoupling k
-judged Nothing Nothing Nothing = Passed
+abbrev pub judged : Option ℕ → Option ℕ → Option ℕ → Verdict
+judged (Some k) y z = BadRow k
+judged None (Some k) z = BadConnector k
+judged None None (Some k) = BadCoupling k
+judged None None None = Passed
 
-steps : (p : Posted) (x y z : Found) → hold (size_rules p) ≡ true → first_bad_row 0 [] p.rows ≡ place_of x → first_bad connector_rules 0 p.connectors ≡ place_of y
-    → (x ≡ Nothing → first_bad (coupling_rules (whole p.rows)) 0 p.couplings ≡ place_of z) → verdict_of (Intake.intake p) ≡ judged x y z
+steps : (p : Posted) (x y z : Option ℕ) → hold (size_rules p) ≡ true → first_bad_row 0 [] p.rows ≡ place_of x → first_bad connector_rules 0 p.connectors ≡ place_of y
+    → (x ≡ None → first_bad (coupling_rules (whole p.rows)) 0 p.couplings ≡ place_of z) → verdict_of (Intake.intake p) ≡ judged x y z
 unfolding Intake.intake
-steps p (At k) y z s f g h = rw (s, f)
-steps p Nothing (At k) z s f g h = rw (s, f, g)
-steps p Nothing Nothing (At k) s f g h = rw (s, f, g, h refl)
-steps p Nothing Nothing Nothing s f g h = rw (s, f, g, h refl)
+steps p (Some k) y z s f g h = rw (s, f)
+steps p None (Some k) z s f g h = rw (s, f, g)
+steps p None None (Some k) s f g h = rw (s, f, g, h refl)
+steps p None None None s f g h = rw (s, f, g, h refl)
 
 module _ (models connectors couplings : List ℕ) where
   abbrev posted : Posted

@@ -1,5 +1,5 @@
 -- What the private functions of `table` answer: a row read whether it is whole or not, and the tests of a row, a connector and a coupling in the code's order. Definitions only. Assumes nothing.
-use Rattle.std.specs.Prelude.{ℕ, zero, suc, ◌-◌, ◌/◌, Bool, true, false, not, ◌&&◌, List, [], ◌∷◌, length, leb, ltb, eqb, if◌then◌else◌}
+use Rattle.std.specs.Prelude.{ℕ, zero, suc, ◌-◌, ◌/◌, Bool, true, false, not, ◌&&◌, List, [], ◌∷◌, length, leb, ltb, eqb, if◌then◌else◌, None, Some}
 use Rattle.std.proofs.Math.Option.{Option, none, some}
 use Rattle.std.specs.Float.{binary64}
 use Rattle.std.specs.Float.Ieee.{of_bits}
@@ -10,14 +10,11 @@ use Rattle.rules.specs.Table as Table
 use Rattle.rules.specs.Table.{is_parent}
 use Rattle.rules.specs.Intake.{is_new, parent_fits, depth_fits, is_coupled_id, is_component_of}
 use Rattle.rules.specs.Layout.{cell, is_given, parent_in, kind_in, metric_in, stopwatch_in, model_width, connector_width, coupling_width}
-use Rattle.words.specs.declared.Found.{Found}
 use Rattle.words.specs.Search.{first_from}
 use Rattle.table.specs.declared.Part.{Part}
 use Rattle.table.specs.declared.Part.TheVariants.{Models, Connectors, Couplings}
 use Rattle.table.specs.declared.Kind.{Kind}
 use Rattle.table.specs.declared.Kind.TheVariants.{Processor, Batcher, Stopwatch, Coupled, Broken}
-use Rattle.table.specs.declared.Parent.{Parent}
-use Rattle.table.specs.declared.Parent.TheVariants.{Of, Nobody}
 use Rattle.table.specs.Readers.{row_of, kind_of}
 use Rattle.table.specs.Rows.{count_of}
 
@@ -45,9 +42,9 @@ is_kind (Stopwatch w) = true
 is_kind Coupled = true
 is_kind Broken = false
 
-abbrev pub option_of : Parent → Option ℕ
-option_of Nobody = none
-option_of (Of id) = some id
+abbrev pub option_of : Option ℕ → Option ℕ
+option_of None = none
+option_of (Some id) = some id
 
 -- ---- a coupling of each kind, as its words say
 abbrev pub input_in : List ℕ → Table.Coupling
@@ -133,5 +130,5 @@ keeps_in Connectors models words k = connector_keeps (row_of connector_width wor
 keeps_in Couplings models words k = coupling_keeps (all_in models) (row_of coupling_width words k)
 
 -- the first row of this part that does not
-abbrev pub first_bad_in : Part → List ℕ → List ℕ → Found
+abbrev pub first_bad_in : Part → List ℕ → List ℕ → Option ℕ
 first_bad_in part models words = first_from (λ k. not (keeps_in part models words k)) 0 (count_of (width_of part) words)

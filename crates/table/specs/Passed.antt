@@ -1,5 +1,5 @@
 -- What the words of a table say once it has passed intake: how many there are, and that each row, connector and coupling of the table is read off them. Assumes nothing.
-use Rattle.std.specs.Prelude.{ℕ, zero, suc, ◌+◌, ◌*◌, ◌≤◌, ◌<◌, ◌≡◌, refl, Bool, true, false, length, take, T, leb, eqb, if◌then◌else◌}
+use Rattle.std.specs.Prelude.{ℕ, zero, suc, ◌+◌, ◌*◌, ◌≤◌, ◌<◌, ◌≡◌, refl, Bool, true, false, length, take, T, leb, eqb, if◌then◌else◌, None, Some}
 use Rattle.std.proofs.Math.Path.{sym, ap}
 use Rattle.std.proofs.Common.{◌∙◌, subst, add-zero, zero-add, arith, drop_of_length-le, leb→le, eqb→eq}
 use Rattle.std.proofs.lemmas.Bool.{false≢true}
@@ -18,8 +18,6 @@ use Rattle.rules.specs.Depth.{depths, depth_at, fine, passed-again}
 use Rattle.rules.specs.Layout.{cell, parent_in, kind_in, model_width, connector_width, coupling_width, connector_row, coupling_row, lent}
 use Rattle.rules.specs.Layout as Layout
 use Rattle.words.specs.Lists.{length-lines, get_d-from}
-use Rattle.words.specs.declared.Found.{Found}
-use Rattle.words.specs.declared.Found.TheVariants.{At, Nothing}
 use Rattle.table.specs.declared.Part.TheVariants.{Models, Connectors, Couplings}
 use Rattle.table.specs.Readers.{row_of, id_in, named, kind_of, depth_in}
 use Rattle.table.specs.Rows.{count_of, rows_whole}
@@ -43,9 +41,9 @@ abbrev pub coupling_at : List ℕ → ℕ → Coupling
 coupling_at couplings k = coupling_of (row_of coupling_width couplings k)
 
 -- ---- lists
-pub place_none : (f : Found) → place_of f ≡ none → f ≡ Nothing
-place_none (At k) e = absurd (no-some (sym e))
-place_none Nothing e = refl
+pub place_none : (f : Option ℕ) → place_of f ≡ none → f ≡ None
+place_none (Some k) e = absurd (no-some (sym e))
+place_none None e = refl
 
 -- ---- one row
 row_is : (row : List ℕ) (o : Option Kind) (r : Row) → Layout.row_in row o ≡ some r → o ≡ some (kind_or o)
@@ -116,15 +114,15 @@ module _ (models connectors couplings : List ℕ) (t : Table) (e : intake (lent 
   facts : Judged (lent models connectors couplings) (passed t)
   facts = (intake-exactly (lent models connectors couplings) (passed t)).0 e
 
-  no-bad-row : first_bad_in Models models models ≡ Nothing
+  no-bad-row : first_bad_in Models models models ≡ None
   unfolding lent
   no-bad-row = place_none _ (sym (rows_agree models) ∙ (rows-first (lent models connectors couplings)).0.1 facts.1)
 
-  no-bad-connector : first_bad_in Connectors models connectors ≡ Nothing
+  no-bad-connector : first_bad_in Connectors models connectors ≡ None
   unfolding lent
   no-bad-connector = place_none _ (sym (connectors-agree models connectors) ∙ (connectors-first (lent models connectors couplings)).0.1 facts.2)
 
-  no-bad-coupling : first_bad_in Couplings models couplings ≡ Nothing
+  no-bad-coupling : first_bad_in Couplings models couplings ≡ None
   unfolding lent
   no-bad-coupling = place_none _ (sym (couplings-agree models couplings no-bad-row) ∙ (couplings-first (lent models connectors couplings)).0.1 facts.3)
 

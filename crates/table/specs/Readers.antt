@@ -1,5 +1,5 @@
 -- What the readers of a lent table answer, by the layout (rules, Layout.antt). Definitions only. Assumes nothing.
-use Rattle.std.specs.Prelude.{ℕ, zero, suc, ◌*◌, List, [], ◌∷◌, take, drop, if◌then◌else◌}
+use Rattle.std.specs.Prelude.{ℕ, zero, suc, ◌*◌, List, [], ◌∷◌, take, drop, if◌then◌else◌, None, Some}
 use Rattle.std.proofs.Math.Option.{Option, none, some}
 use Rattle.rules.specs.Base.{hold}
 use Rattle.rules.specs.Table as Table
@@ -7,8 +7,6 @@ use Rattle.rules.specs.Intake.{kind_rules, depth_of}
 use Rattle.rules.specs.Layout.{cell, model_width, parent_in}
 use Rattle.table.specs.declared.Kind.{Kind}
 use Rattle.table.specs.declared.Kind.TheVariants.{Processor, Batcher, Stopwatch, Coupled, Broken}
-use Rattle.table.specs.declared.Parent.{Parent}
-use Rattle.table.specs.declared.Parent.TheVariants.{Of, Nobody}
 
 -- the words of the row k: fewer where it is cut short, none past the last
 abbrev pub row_of : ℕ → List ℕ → ℕ → List ℕ
@@ -28,9 +26,9 @@ abbrev pub kind_of : Option Table.Kind → Kind
 kind_of none = Broken
 kind_of (some k) = if hold (kind_rules k) then named k else Broken
 
-abbrev pub parent_of : Option ℕ → Parent
-parent_of none = Nobody
-parent_of (some id) = Of id
+abbrev pub parent_of : Option ℕ → Option ℕ
+parent_of none = None
+parent_of (some id) = Some id
 
 -- a row's id and parent; its kind is not looked at
 abbrev pub plain_row : List ℕ → ℕ → Table.Row

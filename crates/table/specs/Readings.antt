@@ -6,12 +6,11 @@ use Rattle.std.proofs.Math.Option.{Option, none, some}
 use Rattle.rules.specs.Sizes.{is_port, is_word, omitted_capacity}
 use Rattle.rules.specs.Base.{hold}
 use Rattle.rules.specs.Layout.{cell, is_given, capacity_in, kind_in}
-use Rattle.table.specs.declared.Parent.{Parent}
 use Rattle.table.specs.Readers.{kind_of, parent_of}
 use Rattle.table.specs.Judging.{option_of, is_kind, cells_fit}
 use Rattle.rules.specs.Ends.{one}
 
-pub parent-back : {p : Parent} (o : Option ℕ) → p ≡ parent_of o → o ≡ option_of p
+pub parent-back : {p : Option ℕ} (o : Option ℕ) → p ≡ parent_of o → o ≡ option_of p
 parent-back none e = sym (ap option_of e)
 parent-back (some id) e = sym (ap option_of e)
 

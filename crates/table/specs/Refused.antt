@@ -1,5 +1,5 @@
 -- What the words of a table say where intake refuses it: the rows before a bad one are those of their words, and the bad one fails the tests of its own; and that none does where no bad one is found. Assumes nothing.
-use Rattle.std.specs.Prelude.{ℕ, zero, suc, ◌+◌, ◌*◌, ◌≤◌, ◌<◌, ◌≡◌, refl, Bool, true, false, not, get_or, take}
+use Rattle.std.specs.Prelude.{ℕ, zero, suc, ◌+◌, ◌*◌, ◌≤◌, ◌<◌, ◌≡◌, refl, Bool, true, false, not, get_or, take, None, Some}
 use Rattle.std.proofs.Common.{sym, ap, ◌∙◌, subst, add-zero, zero-add, arith, drop_of_length-le}
 use mathlib.Core.List.{List, [], map, reverse_aux}
 use Rattle.std.proofs.Math.Option.{Option, none, some}
@@ -13,8 +13,6 @@ use Rattle.rules.specs.Intake.{whole, connector_rules, coupling_rules, first_bad
 use Rattle.rules.specs.Layout.{rows_of, kind_in, model_width, connector_width, coupling_width, model_row, connector_row, coupling_row}
 use Rattle.rules.specs.Ends.{no-some}
 use Rattle.rules.specs.Decides.{Whole, Fine, RowKeeps, RowFine}
-use Rattle.words.specs.declared.Found.{Found}
-use Rattle.words.specs.declared.Found.TheVariants.{At, Nothing}
 use Rattle.words.specs.Lists.{get_d-from}
 use Rattle.words.specs.SearchLaws.{first-at}
 use Rattle.table.specs.declared.Part.{Part}
@@ -42,11 +40,11 @@ line-is width wide words j = elim (dec_le (suc j) (count_of width words)) [
 bad-at : (part : Part) (models words : List ℕ) (k : ℕ) → place_of (first_bad_in part models words) ≡ some k → keeps_in part models words k ≡ false
 bad-at part models words k = go (first_bad_in part models words) refl
   where
-    go : (f : Found) → first_bad_in part models words ≡ f → place_of f ≡ some k → keeps_in part models words k ≡ false
-    go (At j) e h =
+    go : (f : Option ℕ) → first_bad_in part models words ≡ f → place_of f ≡ some k → keeps_in part models words k ≡ false
+    go (Some j) e h =
         let same : j ≡ k = cc in
         rw (← same) (not-true (keeps_in part models words j) (first-at (λ i. not (keeps_in part models words i)) 0 (count_of (width_of part) words) j e).2)
-    go Nothing e h = absurd (no-some h)
+    go None e h = absurd (no-some h)
 
 module _ (models : List ℕ) (k : ℕ) where
   pub bad-row : first_bad_row 0 [] (map model_row (rows_of model_width models)) ≡ some k → row_keeps models k ≡ false
@@ -98,7 +96,7 @@ module _ (models : List ℕ) where
 
 -- ---- a coupling, where no row is bad
 module _ (models : List ℕ) (fine : first_bad_row 0 [] (map model_row (rows_of model_width models)) ≡ none) where
-  no-bad-row : first_bad_in Models models models ≡ Nothing
+  no-bad-row : first_bad_in Models models models ≡ None
   no-bad-row = place_none _ (sym (rows_agree models) ∙ fine)
 
   pub bad-coupling : (couplings : List ℕ) (k : ℕ) → first_bad (coupling_rules (whole (map model_row (rows_of model_width models)))) 0 (map coupling_row (rows_of coupling_width couplings)) ≡ some k

@@ -1,11 +1,10 @@
 -- The search for a row by its id and one more cell, as a test of the rows. Assumes nothing.
-use Rattle.std.specs.Prelude.{ℕ, ◌/◌, ◌≤◌, ◌<◌, ◌≡◌, refl, Bool, true, false, ◌&&◌, List, eqb, length}
+use Rattle.std.specs.Prelude.{ℕ, ◌/◌, ◌≤◌, ◌<◌, ◌≡◌, refl, Bool, true, false, ◌&&◌, List, eqb, length, Option}
 use Rattle.std.proofs.Math.Path.{sym, ap}
 use Rattle.std.proofs.Common.{◌∙◌, arith, lt-ltb}
 use Rattle.std.proofs.Math.Nat.{sub-zero}
 use Rattle.rules.specs.Base.{some_of, from}
 use Rattle.rules.specs.Layout.{cell}
-use Rattle.words.specs.declared.Found.{Found}
 use Rattle.words.specs.declared.Cell.{Cell}
 use Rattle.words.specs.declared.Key.{Key}
 use Rattle.words.specs.Search.{first_from, in_row, holds_in, matches, next_row}
@@ -39,7 +38,7 @@ module _ (models : List ℕ) (rows id at value : ℕ) (few : rows ≤ length mod
   pub searched : next_row (id_and id at value) 10 0 rows models ≡ first_from (matches (id_and id at value) 10 models) 0 rows
   searched = next-row-first (id_and id at value) 10 0 rows models in-row few ∙ rw sub-zero
 
-  pub has-row : {f : Found} → f ≡ next_row (id_and id at value) 10 0 rows models → has_row models rows id at value ≡ is_found f
+  pub has-row : {f : Option ℕ} → f ≡ next_row (id_and id at value) 10 0 rows models → has_row models rows id at value ≡ is_found f
   unfolding has_row
   has-row e =
       (λ i. some_of (λ k. same_test k i) (from 0 rows)) ∙ sym (first_some (matches (id_and id at value) 10 models) 0 rows)

@@ -11,8 +11,7 @@ ghost use Rattle.table.specs.Judging as Judging;
 ghost use Rattle.table.specs.Rising.{AtMost};
 
 use rules::{Batcher, Metric, Processor, Stopwatch};
-use times::TimeOf;
-use words::{Cell, Found, Key};
+use words::{Cell, Key};
 
 // What intake says of a table, with the first bad row, counted from 0 in its own slice.
 #[derive(Clone, Copy)]
@@ -32,12 +31,6 @@ pub enum Kind {
     Stopwatch(Stopwatch),
     Coupled,
     Broken,
-}
-
-#[derive(Clone, Copy)]
-pub enum Parent {
-    Of(u64),
-    Nobody,
 }
 
 // The parts of a table, each with rules of its own.
@@ -144,13 +137,13 @@ fn batcher_of(input: u64, output: u64, size: u64, bits: u64) -> Kind
         return Kind::Broken;
     }
     match times::time_of_bits(bits) {
-        TimeOf::Time(time) => Kind::Batcher(Batcher {
+        Some(time) => Kind::Batcher(Batcher {
             input: input as u16,
             output: output as u16,
             max_batch_size: size,
             max_batch_time: time,
         }),
-        TimeOf::Bad => Kind::Broken,
+        None => Kind::Broken,
     }
 }
 
@@ -230,13 +223,13 @@ fn kind_in(cells: &[u64]) -> Kind
 }
 
 // The parent that a row's words say.
-fn parent_in(cells: &[u64]) -> Parent
+fn parent_in(cells: &[u64]) -> Option<u64>
     ensures { result ≡ parent_of (Layout.parent_in cells.now) }
 {
     if is_given(cells, 1) {
-        Parent::Of(words::word_at(cells, 3))
+        Some(words::word_at(cells, 3))
     } else {
-        Parent::Nobody
+        None
     }
 }
 
@@ -276,7 +269,7 @@ pub fn kind_at(models: &[u64], row: usize) -> Kind
 }
 
 // The id of a row's parent, or Nobody.
-pub fn parent_at(models: &[u64], row: usize) -> Parent
+pub fn parent_at(models: &[u64], row: usize) -> Option<u64>
     ensures { result ≡ parent_of (Layout.parent_in (row_of Layout.model_width models.now row)) }
 {
     parent_in(row_of(models, 10, row))
@@ -295,8 +288,8 @@ pub fn depth_at(models: &[u64], row: usize) -> usize
     while 0 < at {
         at -= 1;
         match parent {
-            Parent::Nobody => return depth,
-            Parent::Of(id) => {
+            None => return depth,
+            Some(id) => {
                 if id_at(models, at) == id {
                     depth += 1;
                     parent = parent_at(models, at);
@@ -321,8 +314,8 @@ fn has_row(models: &[u64], rows: usize, id: u64, at: usize, value: u64) -> bool
         fourth: held,
     };
     match words::next_row(models, 10, 0, rows, key) {
-        Found::At(_) => true,
-        Found::Nothing => false,
+        Some(_) => true,
+        None => false,
     }
 }
 
@@ -366,8 +359,8 @@ fn parent_fits(models: &[u64], row: usize, cells: &[u64]) -> bool
     ensures { result ≡ Judging.parent_joins models.now row }
 {
     match parent_in(cells) {
-        Parent::Of(id) => has_row(models, row, id, 1, 4),
-        Parent::Nobody => true,
+        Some(id) => has_row(models, row, id, 1, 4),
+        None => true,
     }
 }
 
@@ -430,8 +423,8 @@ fn is_child(cells: &[u64], owner: u64, target: u64) -> bool
         return false;
     }
     match parent_in(cells) {
-        Parent::Of(id) => id == owner,
-        Parent::Nobody => false,
+        Some(id) => id == owner,
+        None => false,
     }
 }
 
@@ -523,7 +516,7 @@ fn greater(a: u64, b: u64) -> u64
 }
 
 // The first row of this part that does not keep its rules, a row cut short among them.
-fn first_bad(part: Part, models: &[u64], slice: &[u64]) -> Found
+fn first_bad(part: Part, models: &[u64], slice: &[u64]) -> Option<usize>
     ensures { result ≡ Judging.first_bad_in part models.now slice.now }
 {
     let width = width_of(part);
@@ -533,13 +526,13 @@ fn first_bad(part: Part, models: &[u64], slice: &[u64]) -> Found
     while start < slice.len() {
         let cells = row_from(slice, start, width);
         if !keeps(part, models, slice, row, cells, greatest) {
-            return Found::At(row);
+            return Some(row);
         }
         greatest = greater(greatest, words::word_at(cells, 0));
         start += width;
         row += 1;
     }
-    Found::Nothing
+    None
 }
 
 // Table intake of any three slices, with the first bad row: 1, then 2 in row order, then 3 in the order of the connectors and then of the couplings.
@@ -556,16 +549,16 @@ pub fn intake(models: &[u64], connectors: &[u64], couplings: &[u64]) -> Verdict
         return Verdict::TooLarge;
     }
     match first_bad(Part::Models, models, models) {
-        Found::At(row) => return Verdict::BadRow(row),
-        Found::Nothing => {}
+        Some(row) => return Verdict::BadRow(row),
+        None => {}
     }
     match first_bad(Part::Connectors, models, connectors) {
-        Found::At(row) => return Verdict::BadConnector(row),
-        Found::Nothing => {}
+        Some(row) => return Verdict::BadConnector(row),
+        None => {}
     }
     match first_bad(Part::Couplings, models, couplings) {
-        Found::At(row) => return Verdict::BadCoupling(row),
-        Found::Nothing => {}
+        Some(row) => return Verdict::BadCoupling(row),
+        None => {}
     }
     Verdict::Passed
 }

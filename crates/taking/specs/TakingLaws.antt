@@ -1,5 +1,6 @@
 -- The laws of messages that are taken: where they stand nothing changes, their words are narrow, and message by message they are all. Assumes nothing.
-use Rattle.std.specs.Prelude.{ℕ, zero, suc, ◌+◌, ◌*◌, ◌-◌, ◌≤◌, ◌<◌, ◌≡◌, refl, Bool, true, false, List, [], ◌∷◌, map, length, T, eqb, Float, if◌then◌else◌}
+use Rattle.std.specs.Prelude.{ℕ, zero, suc, ◌+◌, ◌*◌, ◌-◌, ◌≤◌, ◌<◌, ◌≡◌, refl, Bool, true, false, List, [], ◌∷◌, map, length, T, eqb, Float, if◌then◌else◌, Ok, Result, Some, tt, ⊤}
+use Rattle.rules.specs.declared.Refusal.{Refusal}
 use Rattle.std.proofs.Common.{sym, ap, subst, ◌∙◌, inr, arith, ltb-false, eq-eqb, ne_eqb, ltb→lt}
 use Rattle.std.proofs.lemmas.Bool.{eqb-false}
 use Rattle.std.specs.Float.{binary64}
@@ -12,15 +13,12 @@ use Rattle.rules.specs.Valid.{message_rules}
 use Rattle.rules.specs.Ends.{All, nil, ◌&◌, parts}
 use Rattle.rules.specs.Depth.{Deep, parentless-deep}
 use Rattle.rules.proofs.Worlds.{MessageFits}
-use Rattle.words.specs.declared.Found.TheVariants.{At}
 use Rattle.words.specs.Search.{first_from}
 use Rattle.words.specs.SearchLaws.{search-hit}
 use Rattle.selection.specs.Selected.{each_map, sweep-bounds}
 use Rattle.lookup.specs.Inside.{Inside, table_in}
 use Rattle.lookup.specs.InsideLaws.{place-keeps, fine-in, in-parentless}
 use Rattle.memory.specs.Words.{word_at}
-use Rattle.memory.specs.declared.Answer.{Answer}
-use Rattle.memory.specs.declared.Answer.TheVariants as answer
 use Rattle.views.specs.World.{end_of, Ready, Frame, Moves, Does}
 use Rattle.views.specs.Messages.{message_in, messages_in}
 use Rattle.views.proofs.Frames.{frame_same}
@@ -86,9 +84,9 @@ those-always j (suc n) = ap (λ l. j ∷ l) (those-always (suc j) n)
 -- ---- one message and one row
 module _ (t : Table) (services : List Float) (clock : Float) (i : ℕ) (m : Message) (mem : List ℕ) where
   pub not-its : Ready t mem → (m.target_id ≡ id_at t i → ⊥) → Moves (takes_one t services clock i m) t mem mem
-  not-its ready other = let e = ne_eqb m.target_id (id_at t i) other in does-as t mem mem done (takes_one t services clock i m) answer.Done (λ w. rw e) (stays t mem ready)
+  not-its ready other = let e = ne_eqb m.target_id (id_at t i) other in does-as t mem mem done (takes_one t services clock i m) (Ok tt) (λ w. rw e) (stays t mem ready)
 
-  pub its : (after : List ℕ) (r : Answer) → m.target_id ≡ id_at t i → Does r (external t services levels clock i m.target_port m.content) t mem after → Does r (takes_one t services clock i m) t mem after
+  pub its : (after : List ℕ) (r : Result ⊤ Refusal) → m.target_id ≡ id_at t i → Does r (external t services levels clock i m.target_port m.content) t mem after → Does r (takes_one t services clock i m) t mem after
   its after r same d =
       let e = eq-eqb m.target_id (id_at t i) same in
       does-as t mem after (external t services levels clock i m.target_port m.content) (takes_one t services clock i m) r (λ w. rw e) d
@@ -97,7 +95,7 @@ module _ (t : Table) (services : List Float) (clock : Float) (i : ℕ) (m : Mess
 abbrev pub takes_at : Table → List Float → Float → ℕ → ℕ → List ℕ → ℕ → World → Outcome World
 takes_at t services clock i active mem k = takes_one t services clock i (message_in active mem k)
 
-pub one_by_one : (t : Table) (services : List Float) (clock : Float) (i active count : ℕ) (mem after : List ℕ) (r : Answer) → Does r (all_of t (takes_at t services clock i active mem) always mem count) t mem after
+pub one_by_one : (t : Table) (services : List Float) (clock : Float) (i active count : ℕ) (mem after : List ℕ) (r : Result ⊤ Refusal) → Does r (all_of t (takes_at t services clock i active mem) always mem count) t mem after
     → Does r (takes_all t services clock (messages_in active count mem) i) t mem after
 one_by_one t services clock i active count mem after r d = does-as t mem after (all_of t (takes_at t services clock i active mem) always mem count) (takes_all t services clock (messages_in active count mem) i) r same d
   where
@@ -130,13 +128,13 @@ not-addressed t services clock i active count mem past ready none =
     let visit = takes_at t services clock i active mem in
     let last = stop_from (is_for active mem (id_at t i)) 0 (count - 0) in
     let g = pass-others t services clock i active count mem mem past (id_at t i) 0 refl (omega arith) (going_start t visit always mem count ready) in
-    one_by_one t services clock i active count mem mem answer.Done (going_end t visit always mem count last mem g (ltb-false last count none))
+    one_by_one t services clock i active count mem mem (Ok tt) (going_end t visit always mem count last mem g (ltb-false last count none))
 
 -- ---- a model without parent that a search found is one of the rows, and all levels are before it
 abbrev pub has_no_parent : Table → ℕ → Bool
 has_no_parent t j = is_parentless (row_at t j).parent
 
-module _ (state : List ℕ) (inside : Inside state) (start j : ℕ) (found : first_from (has_no_parent (table_in state)) start (length (table_in state).rows - start) ≡ At j) where
+module _ (state : List ℕ) (inside : Inside state) (start j : ℕ) (found : first_from (has_no_parent (table_in state)) start (length (table_in state).rows - start) ≡ Some j) where
   pub taker-bounds : (start ≤ j) × (j < length (table_in state).rows) × (has_no_parent (table_in state) j ≡ true)
   taker-bounds = sweep-bounds {S = ℕ} (λ k s. done s) (has_no_parent (table_in state)) start (length (table_in state).rows) 0 j found
 

@@ -13,8 +13,6 @@ ghost use Rattle.model_events.specs.Events.{Scene, Event};
 ghost use Rattle.sweeps.specs.Skips.{stop_from};
 ghost use Rattle.taking.specs.Taking.{takes_one, takes_all, is_for, is_addressed, Active};
 
-use memory::Answer;
-use words::Found;
 
 // The first message from the k-th on that is for this id; past the last if there is none.
 fn next_for(mem: &[u64], active: usize, k: usize, count: usize, id: u64) -> usize
@@ -56,7 +54,7 @@ pub fn take_all(
     clock: f64,
     active: usize,
     count: usize,
-) -> Answer
+) -> Result<(), Refusal>
     requires { Scene state.now mem.old clock × (end_of (table_in state.now) ≤ active) × (active + 1536 ≤ length mem.old) × (count ≤ 256) × All MessageFits (messages_in active count mem.old) }
     ensures does { Does result (Step.taken (table_in state.now) services.now clock (messages_in active count mem.old)) (table_in state.now) mem.old mem.new }
     ensures frame { Frame (table_in state.now) 0 0 mem.old mem.new }
@@ -66,17 +64,17 @@ pub fn take_all(
     while from < end {
         let addressed = next_addressed(state, mem, from, active, count);
         match lookup::next_parentless(state, addressed) {
-            Found::Nothing => return Answer::Done,
-            Found::At(row) => {
+            None => return Ok(()),
+            Some(row) => {
                 match take_for(state, services, mem, clock, row, active, count) {
-                    Answer::Done => {}
-                    Answer::Refused(refusal) => return Answer::Refused(refusal),
+                    Ok(()) => {}
+                    Err(refusal) => return Err(refusal),
                 }
                 from = row + 1;
             }
         }
     }
-    Answer::Done
+    Ok(())
 }
 
 // One model takes the messages that are for it, in list order.
@@ -88,7 +86,7 @@ fn take_for(
     row: usize,
     active: usize,
     count: usize,
-) -> Answer
+) -> Result<(), Refusal>
     requires { Event state.now mem.old clock row × Deep (table_in state.now) Step.levels row × Active (table_in state.now) mem.old active count }
     ensures does { Does result (takes_all (table_in state.now) services.now clock (messages_in active count mem.old) row) (table_in state.now) mem.old mem.new }
     ensures frame { Frame (table_in state.now) 0 0 mem.old mem.new }
@@ -97,12 +95,12 @@ fn take_for(
     let mut k = next_for(mem, active, 0, count, id);
     while k < count {
         match take_one(state, services, mem, clock, row, active, k) {
-            Answer::Done => {}
-            Answer::Refused(refusal) => return Answer::Refused(refusal),
+            Ok(()) => {}
+            Err(refusal) => return Err(refusal),
         }
         k = next_for(mem, active, k + 1, count, id);
     }
-    Answer::Done
+    Ok(())
 }
 
 // One model takes one message, if it is for it.
@@ -114,14 +112,14 @@ fn take_one(
     row: usize,
     active: usize,
     k: usize,
-) -> Answer
+) -> Result<(), Refusal>
     requires { Event state.now mem.old clock row × Deep (table_in state.now) Step.levels row × (k < 256) × (active + 1536 ≤ length mem.old) × MessageFits (message_in active mem.old k) }
     ensures does { Does result (takes_one (table_in state.now) services.now clock row (message_in active mem.old k)) (table_in state.now) mem.old mem.new }
     ensures frame { Frame (table_in state.now) 0 0 mem.old mem.new }
 {
     let at = active + k * 6;
     if mem[at + 2] != lookup::id_of(state, row) {
-        return Answer::Done;
+        return Ok(());
     }
     let port = mem[at + 3] as u16;
     let content = mem[at + 5] as u32;

@@ -1,10 +1,9 @@
 -- Worked examples, as one table: antt computes each line. Assumes nothing.
-use Rattle.std.specs.Prelude.{◌≡◌, refl, ℕ, Bool, true, false, Float}
+use Rattle.std.specs.Prelude.{◌≡◌, refl, ℕ, Bool, true, false, Float, None, Some}
 use Rattle.std.specs.Float.{binary64}
 use Rattle.std.specs.Float.Ieee.{fits, le, add, sub, of_bits, to_bits}
 use Rattle.times.specs.Time.{latest, is_time, is_timer}
 use Rattle.times.specs.Answers.{later_of}
-use Rattle.times.specs.declared.Later.TheVariants.{Clock, Overflow}
 
 abbrev f64 : ℕ → Float
 f64 bits = of_bits binary64 bits
@@ -31,9 +30,9 @@ pub record Table : Type 0 where
   -- 0.3 - 0.1 is 0.19999999999999998
   pub tenths : to_bits binary64 (sub binary64 (f64 0x3FD3_3333_3333_3333) (f64 0x3FB9_9999_9999_999A)) ≡ 0x3FC9_9999_9999_9999
   -- 2^60 + 128 is a tie, and goes down to the even 2^60: the clock stands still
-  pub stands-still : later_of latest (f64 0x4060_0000_0000_0000) ≡ Clock latest
+  pub stands-still : later_of latest (f64 0x4060_0000_0000_0000) ≡ Some latest
   -- 2^60 + 256 is past the last time
-  pub overflows : later_of latest (f64 0x4070_0000_0000_0000) ≡ Overflow
+  pub overflows : later_of latest (f64 0x4070_0000_0000_0000) ≡ None
 
 pub examples : Table
 unfolding is_time is_timer fits le of_bits to_bits sub add later_of

@@ -8,24 +8,6 @@ ghost use Rattle.times.specs.Time as Time;
 ghost use Rattle.times.specs.Time.{is_time, is_timer, least_of};
 ghost use Rattle.times.specs.Answers.{time_of_bits, timer_of_bits, later_of};
 
-#[derive(Clone, Copy)]
-pub enum TimeOf {
-    Time(f64),
-    Bad,
-}
-
-#[derive(Clone, Copy)]
-pub enum TimerOf {
-    Timer(f64),
-    NoTimer,
-}
-
-#[derive(Clone, Copy)]
-pub enum Later {
-    Clock(f64),
-    Overflow,
-}
-
 // +infinity, the timer that never runs out.
 pub fn never() -> f64
     ensures { result ≡ Time.never }
@@ -60,27 +42,27 @@ pub fn is_timer(x: f64) -> bool
     x == never()
 }
 
-// The time that has these bits, or Bad where they are those of none.
-pub fn time_of_bits(bits: u64) -> TimeOf
+// The time that has these bits; none where they are those of no time.
+pub fn time_of_bits(bits: u64) -> Option<f64>
     ensures { result ≡ time_of_bits bits }
 {
     if bits <= 0x43B0_0000_0000_0000 {
-        TimeOf::Time(f64::from_bits(bits))
+        Some(f64::from_bits(bits))
     } else {
-        TimeOf::Bad
+        None
     }
 }
 
-// The timer that has these bits, or NoTimer.
-pub fn timer_of_bits(bits: u64) -> TimerOf
+// The timer that has these bits, or none.
+pub fn timer_of_bits(bits: u64) -> Option<f64>
     ensures { result ≡ timer_of_bits bits }
 {
     if bits == 0x7FF0_0000_0000_0000 {
-        return TimerOf::Timer(never());
+        return Some(never());
     }
     match time_of_bits(bits) {
-        TimeOf::Time(x) => TimerOf::Timer(x),
-        TimeOf::Bad => TimerOf::NoTimer,
+        Some(x) => Some(x),
+        None => None,
     }
 }
 
@@ -98,14 +80,14 @@ pub fn after(timer: f64, advance: f64) -> f64
     timer - advance
 }
 
-// The clock plus the advance, rounded once; Overflow where that is no time.
-pub fn advance_clock(clock: f64, advance: f64) -> Later
+// The clock plus the advance, rounded once; none where that is no time.
+pub fn advance_clock(clock: f64, advance: f64) -> Option<f64>
     ensures { result ≡ later_of clock advance }
 {
     let next = clock + advance;
     if is_time(next) {
-        Later::Clock(next)
+        Some(next)
     } else {
-        Later::Overflow
+        None
     }
 }

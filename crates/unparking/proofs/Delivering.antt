@@ -1,4 +1,5 @@
 -- The loop over the messages parked for one component: the words keep the list that they held at first, and what is left of it is the whole of it. Assumes nothing.
+use Rattle.std.specs.Prelude.{Err, None, Ok, Option, Result, Some, tt, ⊤}
 use Prim.Native.Nat.{ℕ, ◌+◌, ◌-◌, ◌≤◌, ◌<◌}
 use mathlib.Core.Path.{◌≡◌, refl, subst, ◌∙◌}
 use mathlib.Core.List.{List}
@@ -11,13 +12,9 @@ use Rattle.rules.specs.Table.{Table, id_at, kind_at, coupled}
 use Rattle.rules.specs.Simulation.{Parked}
 use Rattle.rules.specs.Step.{World}
 use Rattle.rules.specs.Depth.{Deep}
-use Rattle.words.specs.declared.Found.{Found}
-use Rattle.words.specs.declared.Found.TheVariants.{At, Nothing}
 use Rattle.words.specs.Search.{first_from}
 use Rattle.selection.specs.Selected.{sweep-bounds}
 use Rattle.lookup.specs.Inside.{table_in}
-use Rattle.memory.specs.declared.Answer.{Answer}
-use Rattle.memory.specs.declared.Answer.TheVariants as answer
 use Rattle.memory.specs.Words.{head_at, held_in, begin_in}
 use Rattle.memory.specs.View.{parked_in}
 use Rattle.views.specs.World.{begin_of, Frame, Does}
@@ -55,7 +52,7 @@ module _ (state : List ℕ) (services : List Float) (depth : ℕ) (clock : Float
     pub going : Going (table_in state) visit (is_for id begin mem₀) mem₀ held from mem
 
   -- an answer, and what `deliver` then shows
-  abbrev Delivers : Answer → List ℕ → Type 0
+  abbrev Delivers : Result ⊤ Refusal → List ℕ → Type 0
   Delivers r after = Does r whole (table_in state) mem₀ after × Frame (table_in state) 0 0 mem₀ after
 
   pub deliver-start : Asked state depth clock row j mem₀ → id ≡ id_at (table_in state) j → begin ≡ begin_in mem₀ row → held ≡ held_in mem₀ row → Delivering 0 mem₀
@@ -91,43 +88,43 @@ module _ {state : List ℕ} {services : List Float} {depth : ℕ} {clock : Float
       let scene = d.asked.event.scene in
       (record { scene = record { inside = scene.inside; ready = d.going.ready; time = scene.time }; in_table = d.asked.below }, d.asked.deep)
 
-  as-whole : (after : List ℕ) (r : Answer) → Does r (all_of t next (is_for id begin mem₀) mem₀ held) t mem₀ after → Does r (whole state services depth clock row j id begin held mem₀) t mem₀ after
+  as-whole : (after : List ℕ) (r : Result ⊤ Refusal) → Does r (all_of t next (is_for id begin mem₀) mem₀ held) t mem₀ after → Does r (whole state services depth clock row j id begin held mem₀) t mem₀ after
   as-whole = takes-does t row inside d.asked.is mem₀ d.asked.event.scene.ready services depth clock j id begin held d.named d.starts d.holds
 
-  pub deliver-end : held ≤ from → Delivers state services depth clock row j id begin held mem₀ answer.Done mem
-  deliver-end past = (as-whole mem answer.Done (going_end t next (is_for id begin mem₀) mem₀ held from mem d.going past), d.going.frame)
+  pub deliver-end : held ≤ from → Delivers state services depth clock row j id begin held mem₀ (Ok tt) mem
+  deliver-end past = (as-whole mem (Ok tt) (going_end t next (is_for id begin mem₀) mem₀ held from mem d.going past), d.going.frame)
 
-  module _ {found : Found} (searched : found ≡ first_from (is_for id begin mem) from (held - from)) where
-    first : (x : Found) → found ≡ x → first_from (is_for id begin mem₀) from (held - from) ≡ x
+  module _ {found : Option ℕ} (searched : found ≡ first_from (is_for id begin mem) from (held - from)) where
+    first : (x : Option ℕ) → found ≡ x → first_from (is_for id begin mem₀) from (held - from) ≡ x
     first x e = same-found t row inside d.asked.is mem₀ mem d.asked.event.scene.ready d.going.ready d.same begin held d.starts d.holds id from found x searched e
 
-    pub deliver-none : found ≡ Nothing → Delivers state services depth clock row j id begin held mem₀ answer.Done mem
-    deliver-none e = (as-whole mem answer.Done (going-none t next (is_for id begin mem₀) mem₀ held from mem d.going (first Nothing e)), d.going.frame)
+    pub deliver-none : found ≡ None → Delivers state services depth clock row j id begin held mem₀ (Ok tt) mem
+    deliver-none e = (as-whole mem (Ok tt) (going-none t next (is_for id begin mem₀) mem₀ held from mem d.going (first None e)), d.going.frame)
 
-    module _ {place : ℕ} (e : found ≡ At place) where
+    module _ {place : ℕ} (e : found ≡ Some place) where
       pub place-bounds : (from ≤ place) × (place < held) × (begin + held ≤ length mem) × (held ≤ 64)
       place-bounds =
-          let b = sweep-bounds {S = ℕ} (λ k s. done s) (is_for id begin mem₀) from held 0 place (first (At place) e) in
+          let b = sweep-bounds {S = ℕ} (λ k s. done s) (is_for id begin mem₀) from held 0 place (first (Some place) e) in
           (b.0, b.1, all_there.0, all_there.1)
 
-      module _ (after : List ℕ) (r : Answer) (does : Does r (handed t services depth clock j (parked_at begin mem place)) t mem after) (frame : Frame t 0 0 mem after) where
-        visited : (x : Answer) → r ≡ x → Does x (next place) t mem after
+      module _ (after : List ℕ) (r : Result ⊤ Refusal) (does : Does r (handed t services depth clock j (parked_at begin mem place)) t mem after) (frame : Frame t 0 0 mem after) where
+        visited : (x : Result ⊤ Refusal) → r ≡ x → Does x (next place) t mem after
         visited x q =
-            subst (λ (x : Answer). Does x (next place) t mem after) q
+            subst (λ (x : Result ⊤ Refusal). Does x (next place) t mem after) q
             (subst (λ (m : Parked). Does r (handed t services depth clock j m) t mem after) (same_at t row inside d.asked.is mem₀ mem d.asked.event.scene.ready d.going.ready d.same begin held d.starts d.holds place place-bounds.1) does)
 
-        pub deliver-on : r ≡ answer.Done → Delivering state services depth clock row j id begin held mem₀ (place + 1) after
+        pub deliver-on : r ≡ Ok tt → Delivering state services depth clock row j id begin held mem₀ (place + 1) after
         deliver-on q = record {
           asked = d.asked;
           named = d.named;
           starts = d.starts;
           holds = d.holds;
-          same = list-stays t row inside d.asked.is (next place) (handed-leaves t services depth clock row d.asked.is j (parked_at begin mem₀ place)) mem after (visited answer.Done q) ∙ d.same;
-          going = going_on t next (is_for id begin mem₀) mem₀ held from mem d.going place after (first (At place) e) (visited answer.Done q) frame;
+          same = list-stays t row inside d.asked.is (next place) (handed-leaves t services depth clock row d.asked.is j (parked_at begin mem₀ place)) mem after (visited (Ok tt) q) ∙ d.same;
+          going = going_on t next (is_for id begin mem₀) mem₀ held from mem d.going place after (first (Some place) e) (visited (Ok tt) q) frame;
         }
 
-        pub deliver-stops : {refusal : Refusal} → r ≡ answer.Refused refusal → Delivers state services depth clock row j id begin held mem₀ (answer.Refused refusal) after
+        pub deliver-stops : {refusal : Refusal} → r ≡ Err refusal → Delivers state services depth clock row j id begin held mem₀ (Err refusal) after
         deliver-stops {refusal} q = (
-          as-whole after (answer.Refused refusal) (going-stops t next (is_for id begin mem₀) mem₀ held from mem d.going place refusal after (first (At place) e) (visited (answer.Refused refusal) q)),
+          as-whole after (Err refusal) (going-stops t next (is_for id begin mem₀) mem₀ held from mem d.going place refusal after (first (Some place) e) (visited (Err refusal) q)),
           frame_then t 0 0 mem₀ mem after d.going.frame frame,
         )

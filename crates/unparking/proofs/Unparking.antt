@@ -1,4 +1,5 @@
 -- The loop over a Coupled's components: each takes what is parked for it, and the list stays as it is. Assumes nothing.
+use Rattle.std.specs.Prelude.{Err, None, Ok, Option, Result, Some, tt, ⊤}
 use Prim.Native.Nat.{ℕ, ◌+◌, ◌-◌, ◌≤◌, ◌<◌}
 use mathlib.Core.Path.{◌≡◌, refl, sym, subst, ◌∙◌}
 use mathlib.Core.Bool.{true}
@@ -14,14 +15,10 @@ use Rattle.rules.specs.Simulation.{Parked}
 use Rattle.rules.specs.Step.{World, external, unpark}
 use Rattle.rules.specs.Ends.{All}
 use Rattle.rules.specs.Depth.{Deep}
-use Rattle.words.specs.declared.Found.{Found}
-use Rattle.words.specs.declared.Found.TheVariants.{At, Nothing}
 use Rattle.words.specs.Search.{first_from}
 use Rattle.selection.specs.Selected.{sweep-bounds}
 use Rattle.lookup.specs.Inside.{table_in}
 use Rattle.lookup.specs.InsideLaws.{in-components, sizes-in}
-use Rattle.memory.specs.declared.Answer.{Answer}
-use Rattle.memory.specs.declared.Answer.TheVariants as answer
 use Rattle.memory.specs.View.{parked_in}
 use Rattle.views.specs.World.{begin_of, Frame, Does}
 use Rattle.views.proofs.Frames.{frame_then}
@@ -57,7 +54,7 @@ module _ (state : List ℕ) (services : List Float) (depth : ℕ) (clock : Float
   whole = unpark (table_in state) services (external (table_in state) services depth clock) row parked
 
   -- an answer, and what `unpark` then shows
-  abbrev Unparks : Answer → List ℕ → Type 0
+  abbrev Unparks : Result ⊤ Refusal → List ℕ → Type 0
   Unparks r after = Does r whole (table_in state) mem₀ after × Frame (table_in state) 0 0 mem₀ after
 
   pub unpark-start : Asked state depth clock row mem₀ → owner ≡ id_at (table_in state) row → end ≡ length (table_in state).rows → Unparking 0 mem₀
@@ -79,22 +76,22 @@ module _ {state : List ℕ} {services : List Float} {depth : ℕ} {clock : Float
   abbrev next : ℕ → World → Outcome World
   next = takes t services depth clock list
 
-  as-whole : (after : List ℕ) (r : Answer) → Does r (all_of t next (is_one t owner) mem₀ end) t mem₀ after → Does r (whole state services depth clock row owner end mem₀) t mem₀ after
+  as-whole : (after : List ℕ) (r : Result ⊤ Refusal) → Does r (all_of t next (is_one t owner) mem₀ end) t mem₀ after → Does r (whole state services depth clock row owner end mem₀) t mem₀ after
   as-whole after r = unpark-does t services depth clock row owner end list u.owned u.ends mem₀ after r
 
-  pub unpark-end : end ≤ from → Unparks state services depth clock row owner end mem₀ answer.Done mem
-  unpark-end past = (as-whole mem answer.Done (going_end t next (is_one t owner) mem₀ end from mem u.going past), u.going.frame)
+  pub unpark-end : end ≤ from → Unparks state services depth clock row owner end mem₀ (Ok tt) mem
+  unpark-end past = (as-whole mem (Ok tt) (going_end t next (is_one t owner) mem₀ end from mem u.going past), u.going.frame)
 
-  module _ {found : Found} (searched : found ≡ first_from (is_one t owner) from (length t.rows - from)) where
-    first : (x : Found) → found ≡ x → first_from (is_one t owner) from (end - from) ≡ x
+  module _ {found : Option ℕ} (searched : found ≡ first_from (is_one t owner) from (length t.rows - from)) where
+    first : (x : Option ℕ) → found ≡ x → first_from (is_one t owner) from (end - from) ≡ x
     first x e = found-next t owner end u.ends from found x searched e
 
-    pub unpark-none : found ≡ Nothing → Unparks state services depth clock row owner end mem₀ answer.Done mem
-    unpark-none e = (as-whole mem answer.Done (going-none t next (is_one t owner) mem₀ end from mem u.going (first Nothing e)), u.going.frame)
+    pub unpark-none : found ≡ None → Unparks state services depth clock row owner end mem₀ (Ok tt) mem
+    unpark-none e = (as-whole mem (Ok tt) (going-none t next (is_one t owner) mem₀ end from mem u.going (first None e)), u.going.frame)
 
-    module _ {j : ℕ} (e : found ≡ At j) where
+    module _ {j : ℕ} (e : found ≡ Some j) where
       bounds : (from ≤ j) × (j < end) × (is_one t owner j ≡ true)
-      bounds = sweep-bounds {S = ℕ} (λ k s. done s) (is_one t owner) from end 0 j (first (At j) e)
+      bounds = sweep-bounds {S = ℕ} (λ k s. done s) (is_one t owner) from end 0 j (first (Some j) e)
 
       pub component-bounds : (from ≤ j) × (j < end) × (end ≤ 64)
       component-bounds = let few = sizes-in state u.asked.event.scene.inside in let n = u.ends in (bounds.0, bounds.1, omega arith)
@@ -111,23 +108,23 @@ module _ {state : List ℕ} {services : List Float} {depth : ℕ} {clock : Float
             in-components state scene.inside owner j below (subst T (sym bounds.2) tt) (Deep t depth) deep,
           )
 
-      module _ (after : List ℕ) (r : Answer) (does : Does r (takes t services depth clock (parked_in (begin_of t row) mem row) j) t mem after) (frame : Frame t 0 0 mem after) where
-        visited : (x : Answer) → r ≡ x → Does x (next j) t mem after
+      module _ (after : List ℕ) (r : Result ⊤ Refusal) (does : Does r (takes t services depth clock (parked_in (begin_of t row) mem row) j) t mem after) (frame : Frame t 0 0 mem after) where
+        visited : (x : Result ⊤ Refusal) → r ≡ x → Does x (next j) t mem after
         visited x q =
-            subst (λ (x : Answer). Does x (next j) t mem after) q
+            subst (λ (x : Result ⊤ Refusal). Does x (next j) t mem after) q
             (subst (λ (l : List Parked). Does r (takes t services depth clock l j) t mem after) u.same does)
 
-        pub unpark-on : r ≡ answer.Done → Unparking state services depth clock row owner end mem₀ (j + 1) after
+        pub unpark-on : r ≡ Ok tt → Unparking state services depth clock row owner end mem₀ (j + 1) after
         unpark-on q = record {
           asked = u.asked;
           owned = u.owned;
           ends = u.ends;
-          same = list-stays t row u.asked.event.in_table u.asked.is (next j) (takes-leaves t services depth clock row u.asked.is list j) mem after (visited answer.Done q) ∙ u.same;
-          going = going_on t next (is_one t owner) mem₀ end from mem u.going j after (first (At j) e) (visited answer.Done q) frame;
+          same = list-stays t row u.asked.event.in_table u.asked.is (next j) (takes-leaves t services depth clock row u.asked.is list j) mem after (visited (Ok tt) q) ∙ u.same;
+          going = going_on t next (is_one t owner) mem₀ end from mem u.going j after (first (Some j) e) (visited (Ok tt) q) frame;
         }
 
-        pub unpark-stops : {refusal : Refusal} → r ≡ answer.Refused refusal → Unparks state services depth clock row owner end mem₀ (answer.Refused refusal) after
+        pub unpark-stops : {refusal : Refusal} → r ≡ Err refusal → Unparks state services depth clock row owner end mem₀ (Err refusal) after
         unpark-stops {refusal} q = (
-          as-whole after (answer.Refused refusal) (going-stops t next (is_one t owner) mem₀ end from mem u.going j refusal after (first (At j) e) (visited (answer.Refused refusal) q)),
+          as-whole after (Err refusal) (going-stops t next (is_one t owner) mem₀ end from mem u.going j refusal after (first (Some j) e) (visited (Err refusal) q)),
           frame_then t 0 0 mem₀ mem after u.going.frame frame,
         )

@@ -1,5 +1,6 @@
 -- The laws of a Coupled's parked messages: a sweep over them is one over their places, and external events leave them as they are. Assumes nothing.
-use Rattle.std.specs.Prelude.{ℕ, ◌+◌, ◌-◌, ◌≤◌, ◌<◌, ◌≡◌, refl, Bool, List, [], ◌∷◌, map, length, get_or, take, drop, eqb, Float}
+use Rattle.std.specs.Prelude.{ℕ, ◌+◌, ◌-◌, ◌≤◌, ◌<◌, ◌≡◌, refl, Bool, List, [], ◌∷◌, map, length, get_or, take, drop, eqb, Float, Option, Result, ⊤}
+use Rattle.rules.specs.declared.Refusal.{Refusal}
 use Rattle.std.proofs.Common.{sym, ap, ◌∙◌, zero-add, arith, ext_get_or, get_or-take, get_or-drop}
 use Rattle.std.proofs.Math.ListN.{get_or-map}
 use Rattle.rules.specs.Base.{Outcome, refused, done, ◌>>=◌, each, those, from}
@@ -7,12 +8,10 @@ use Rattle.rules.specs.Table.{Kind, coupled, Table, id_at, kind_at}
 use Rattle.rules.specs.Simulation.{Parked, state_at, as_coupled}
 use Rattle.rules.specs.Step.{World, external, unpark}
 use Rattle.rules.specs.Arriving.{parked-stays}
-use Rattle.words.specs.declared.Found.{Found}
 use Rattle.words.specs.Lists.{length-lines, get_d-from}
 use Rattle.words.specs.Search.{first_from}
 use Rattle.words.specs.SearchLaws.{first-ext}
 use Rattle.selection.specs.Selected.{each_map, those-map}
-use Rattle.memory.specs.declared.Answer.{Answer}
 use Rattle.memory.specs.Words.{held_in, own_in}
 use Rattle.memory.specs.View.{parked_of, parked_in, state_in, Row}
 use Rattle.views.specs.World.{begin_of, state_of, world_in, Ready, Moves, Does}
@@ -77,7 +76,7 @@ module _ (t : Table) (row : ℕ) (inside : row < length t.rows) (is : kind_at t 
         (λ k l. let m : k < held_in mem row = omega (arith, held-length b mem row here) in at_place k m ∙ sym (get_d-from (parked_at b mem) (parked_of 0) 0 (held_in mem row) k m ∙ ap (parked_at b mem) (zero-add k)))
 
     -- what the row j takes is what stands at the places that are for it
-    pub takes-does : (services : List Float) (depth : ℕ) (clock : Float) (j id begin held : ℕ) → id ≡ id_at t j → begin ≡ b → held ≡ held_in mem row → (after : List ℕ) (r : Answer)
+    pub takes-does : (services : List Float) (depth : ℕ) (clock : Float) (j id begin held : ℕ) → id ≡ id_at t j → begin ≡ b → held ≡ held_in mem row → (after : List ℕ) (r : Result ⊤ Refusal)
         → Does r (all_of t (λ k. handed t services depth clock j (parked_at begin mem k)) (is_for id begin mem) mem held) t mem after
         → Does r (takes t services depth clock (parked_in b mem row) j) t mem after
     takes-does services depth clock j id begin held d e n after r =
@@ -103,12 +102,12 @@ module _ (t : Table) (row : ℕ) (inside : row < length t.rows) (is : kind_at t 
         ∙ at_place mem ready k (omega (arith, n)))
 
     -- a search among them finds the same
-    pub same-found : (id start : ℕ) (r x : Found) → r ≡ first_from (is_for id begin after) start (held - start) → r ≡ x → first_from (is_for id begin mem) start (held - start) ≡ x
+    pub same-found : (id start : ℕ) (r x : Option ℕ) → r ≡ first_from (is_for id begin after) start (held - start) → r ≡ x → first_from (is_for id begin mem) start (held - start) ≡ x
     same-found id start r x h g =
         sym (first-ext (is_for id begin after) (is_for id begin mem) start (held - start) (λ k low high. ap (λ (m : Parked). eqb m.component id) (same_at k (omega arith)))) ∙ sym h ∙ g
 
 -- ---- the components, in row order, take what is parked for them
-pub unpark-does : (t : Table) (services : List Float) (depth : ℕ) (clock : Float) (i owner end : ℕ) (parked : List Parked) → owner ≡ id_at t i → end ≡ length t.rows → (mem after : List ℕ) (r : Answer)
+pub unpark-does : (t : Table) (services : List Float) (depth : ℕ) (clock : Float) (i owner end : ℕ) (parked : List Parked) → owner ≡ id_at t i → end ≡ length t.rows → (mem after : List ℕ) (r : Result ⊤ Refusal)
     → Does r (all_of t (takes t services depth clock parked) (is_one t owner) mem end) t mem after
     → Does r (unpark t services (external t services depth clock) i parked) t mem after
 unpark-does t services depth clock i owner end parked o n mem after r =

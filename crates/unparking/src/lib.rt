@@ -13,8 +13,6 @@ ghost use Rattle.views.specs.World.{begin_of, Frame, Does};
 ghost use Rattle.model_events.specs.Events.{Event};
 ghost use Rattle.unparking.specs.Unparking.{is_for, handed, takes};
 
-use memory::Answer;
-use words::Found;
 
 // Each component in order takes the messages parked for it. The list itself is left as it is.
 pub fn unpark(
@@ -24,7 +22,7 @@ pub fn unpark(
     depth: usize,
     clock: f64,
     row: usize,
-) -> Answer
+) -> Result<(), Refusal>
     requires { Event state.now mem.old clock row × (kind_at (table_in state.now) row ≡ coupled) × All (Deep (table_in state.now) depth) (components (table_in state.now) (id_at (table_in state.now) row)) }
     ensures does { Does result (Step.unpark (table_in state.now) services.now (Step.external (table_in state.now) services.now depth clock) row (parked_in (begin_of (table_in state.now) row) mem.old row)) (table_in state.now) mem.old mem.new }
     ensures frame { Frame (table_in state.now) 0 0 mem.old mem.new }
@@ -34,17 +32,17 @@ pub fn unpark(
     let mut from = 0;
     while from < end {
         match lookup::next_component(state, from, owner) {
-            Found::Nothing => return Answer::Done,
-            Found::At(component) => {
+            None => return Ok(()),
+            Some(component) => {
                 match deliver(state, services, mem, depth, clock, row, component) {
-                    Answer::Done => {}
-                    Answer::Refused(refusal) => return Answer::Refused(refusal),
+                    Ok(()) => {}
+                    Err(refusal) => return Err(refusal),
                 }
                 from = component + 1;
             }
         }
     }
-    Answer::Done
+    Ok(())
 }
 
 // One component takes the messages parked for it, in order.
@@ -56,7 +54,7 @@ fn deliver(
     clock: f64,
     row: usize,
     component: usize,
-) -> Answer
+) -> Result<(), Refusal>
     requires { Event state.now mem.old clock row × (kind_at (table_in state.now) row ≡ coupled) × (component < length (table_in state.now).rows) × Deep (table_in state.now) depth component }
     ensures does { Does result (takes (table_in state.now) services.now depth clock (parked_in (begin_of (table_in state.now) row) mem.old row) component) (table_in state.now) mem.old mem.new }
     ensures frame { Frame (table_in state.now) 0 0 mem.old mem.new }
@@ -67,33 +65,33 @@ fn deliver(
     let mut from = 0;
     while from < held {
         match next_for(mem, begin, held, from, id) {
-            Found::Nothing => return Answer::Done,
-            Found::At(place) => {
+            None => return Ok(()),
+            Some(place) => {
                 let word = mem[begin + place];
                 match hand_over(state, services, mem, depth, clock, component, word) {
-                    Answer::Done => {}
-                    Answer::Refused(refusal) => return Answer::Refused(refusal),
+                    Ok(()) => {}
+                    Err(refusal) => return Err(refusal),
                 }
                 from = place + 1;
             }
         }
     }
-    Answer::Done
+    Ok(())
 }
 
 // The next place, of `held` from `begin` on, that holds a message for the component of this id.
-fn next_for(mem: &[u64], begin: usize, held: usize, from: usize, id: u64) -> Found
+fn next_for(mem: &[u64], begin: usize, held: usize, from: usize, id: u64) -> Option<usize>
     requires { begin + held ≤ length mem.now }
     ensures { result ≡ first_from (is_for id begin mem.now) from (held - from) }
 {
     let mut place = from;
     while place < held {
         if mem[begin + place] / 0x1_0000_0000_0000 == id {
-            return Found::At(place);
+            return Some(place);
         }
         place += 1;
     }
-    Found::Nothing
+    None
 }
 
 // One parked message, by its word, comes to its component.
@@ -105,7 +103,7 @@ fn hand_over(
     clock: f64,
     component: usize,
     word: u64,
-) -> Answer
+) -> Result<(), Refusal>
     requires { Event state.now mem.old clock component × Deep (table_in state.now) depth component }
     ensures does { Does result (handed (table_in state.now) services.now depth clock component (parked_of word)) (table_in state.now) mem.old mem.new }
     ensures frame { Frame (table_in state.now) 0 0 mem.old mem.new }

@@ -1,5 +1,6 @@
 -- From an atom's event on its row's words to the rules' event of that row on the whole world. Assumes nothing.
-use Rattle.std.specs.Prelude.{ℕ, suc, ◌+◌, ◌≤◌, ◌<◌, ◌≡◌, refl, false, List, [], ◌∷◌, ◌++◌, length, T, Float}
+use Rattle.std.specs.Prelude.{ℕ, suc, ◌+◌, ◌≤◌, ◌<◌, ◌≡◌, refl, false, List, [], ◌∷◌, ◌++◌, length, T, Float, Err, Ok, Result, tt, ⊤}
+use Rattle.rules.specs.declared.Refusal.{Refusal}
 use Rattle.std.proofs.Common.{sym, subst₂, ◌∙◌, inl, inr, true≢false, arith}
 use Rattle.std.proofs.Math.Path.{ap}
 use Rattle.times.specs.Time.{is_time}
@@ -13,10 +14,6 @@ use Rattle.rules.specs.Ends.{ends-done}
 use Rattle.rules.specs.Depth.{Fine, Deep}
 use Rattle.rules.proofs.Worlds.{Good, external-keeps, internal-keeps}
 use Rattle.rules.proofs.Runs.{NotTwenty, any-closed}
-use Rattle.memory.specs.declared.Answer.{Answer}
-use Rattle.memory.specs.declared.Answer.TheVariants as answer
-use Rattle.memory.specs.declared.Put.{Put}
-use Rattle.memory.specs.declared.Put.TheVariants as put
 use Rattle.memory.specs.Words.{place_in, begin_in, width_of, Own}
 use Rattle.memory.specs.View.{outs_in, state_in, Row}
 use Rattle.memory.specs.Atoms.{atom_external, atom_internal, Took, Gave}
@@ -67,10 +64,10 @@ module _ (t : Table) (ok : Fine t) (services : List Float) (short : T (is_word (
       ∙ ap (λ (s : State). atom_external (kind_at t i) services clock port content s (place_in mem) >>= took_in clock i port content (world_in t mem log)) (state-is t mem i inside)
 
   pub external-lifts : (port content : ℕ) → T (is_content content) → is_coupled (kind_at t i) ≡ false → (mem after : List ℕ) → Ready t mem
-      → Own i (begin_of t i) (width_of (kind_at t i)) 0 0 mem after → (r : Answer)
+      → Own i (begin_of t i) (width_of (kind_at t i)) 0 0 mem after → (r : Result ⊤ Refusal)
       → Took r (kind_at t i) (begin_of t i) i after (atom_external (kind_at t i) services clock port content (state_of t mem i) (place_in mem))
       → Does r (external t services (suc depth) clock i port content) t mem after
-  external-lifts port content u a mem after ready own answer.Done took = record { ready = record { laid = laid; good = good }; more = more; is = is }
+  external-lifts port content u a mem after ready own (Ok tt) took = record { ready = record { laid = laid; good = good }; more = more; is = is }
     where
       more : List Happening → List Happening
       more log = log ++ came clock i port content took.fate ∷ []
@@ -86,7 +83,7 @@ module _ (t : Table) (ok : Fine t) (services : List Float) (short : T (is_word (
 
       good : Good t (world_in t after [])
       good = (ends-done (external-keeps t ok services short NotTwenty (λ _. Unit {0}) (any-closed t) clock c (suc depth) i port content (world_in t mem []) (atom-deep t depth i a) u (ready.good, tt)) (is [])).0
-  external-lifts port content u a mem after ready own (answer.Refused r) took =
+  external-lifts port content u a mem after ready own (Err r) took =
       λ log. external-is port content a mem log ∙ ap (λ (o : Outcome (State × ℕ × Fate)). o >>= took_in clock i port content (world_in t mem log)) took
 
   -- ---- internal events
@@ -98,10 +95,10 @@ module _ (t : Table) (ok : Fine t) (services : List Float) (short : T (is_word (
       ∙ ap (λ (s : State). atom_internal (kind_at t i) services s (place_in mem) >>= gave_in clock i (world_in t mem log)) (state-is t mem i inside)
 
   pub internal-lifts : is_coupled (kind_at t i) ≡ false → (mem after : List ℕ) → Ready t mem
-      → (at : ℕ) → end_of t ≤ at → Own i (begin_of t i) (width_of (kind_at t i)) at (at + 64) mem after → (r : Put)
+      → (at : ℕ) → end_of t ≤ at → Own i (begin_of t i) (width_of (kind_at t i)) at (at + 64) mem after → (r : Result ℕ Refusal)
       → Gave r at (kind_at t i) (begin_of t i) i after (atom_internal (kind_at t i) services (state_of t mem i) (place_in mem))
       → Gives r at (internal t services (suc depth) clock i) t mem after
-  internal-lifts a mem after ready at past own (put.Out n) gave = record { ready = record { laid = laid; good = good }; few = let f = gave.few in omega arith; more = more; is = is }
+  internal-lifts a mem after ready at past own (Ok n) gave = record { ready = record { laid = laid; good = good }; few = let f = gave.few in omega arith; more = more; is = is }
     where
       more : List Happening → List Happening
       more log = log ++ went clock i (outs_in at n after) ∷ []
@@ -117,13 +114,13 @@ module _ (t : Table) (ok : Fine t) (services : List Float) (short : T (is_word (
 
       good : Good t (world_in t after [])
       good = (ends-done (internal-keeps t ok services short NotTwenty (λ _. Unit {0}) (any-closed t) clock c (suc depth) i (world_in t mem []) (atom-deep t depth i a) (ready.good, tt)) (is [])).0.0
-  internal-lifts a mem after ready at past own (put.Refused r) gave =
+  internal-lifts a mem after ready at past own (Err r) gave =
       λ log. internal-is a mem log ∙ ap (λ (o : Outcome (State × ℕ × List Out)). o >>= gave_in clock i (world_in t mem log)) gave
 
   -- ---- the same for callers that know the row by its kind k, and by where the words say that its own begin
   pub does-kind : (port content : ℕ) → T (is_content content) → (mem after : List ℕ) → Ready t mem
       → (k : Kind) → kind_at t i ≡ k → is_coupled k ≡ false → (b : ℕ) → begin_in mem i ≡ b
-      → Own i b (width_of k) 0 0 mem after → (r : Answer)
+      → Own i b (width_of k) 0 0 mem after → (r : Result ⊤ Refusal)
       → Took r k b i after (atom_external k services clock port content (state_in k b mem i) (place_in mem))
       → Does r (external t services (suc depth) clock i port content) t mem after
   does-kind port content u mem after ready k e a b f own r took =
@@ -134,7 +131,7 @@ module _ (t : Table) (ok : Fine t) (services : List Float) (short : T (is_word (
 
   pub gives-kind : (mem after : List ℕ) → Ready t mem
       → (at : ℕ) → end_of t ≤ at → (k : Kind) → kind_at t i ≡ k → is_coupled k ≡ false → (b : ℕ) → begin_in mem i ≡ b
-      → Own i b (width_of k) at (at + 64) mem after → (r : Put)
+      → Own i b (width_of k) at (at + 64) mem after → (r : Result ℕ Refusal)
       → Gave r at k b i after (atom_internal k services (state_in k b mem i) (place_in mem))
       → Gives r at (internal t services (suc depth) clock i) t mem after
   gives-kind mem after ready at past k e a b f own r gave =

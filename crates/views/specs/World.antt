@@ -1,15 +1,12 @@
 -- The words of all rows of a table, as the rules' world; and what an answer of an event in place says of the rules' event. Definitions only. Assumes nothing.
-use Rattle.std.specs.Prelude.{ℕ, zero, suc, ◌+◌, ◌≤◌, ◌<◌, ◌≡◌, ◌⊎◌, List, [], ◌∷◌, map, length}
+use Rattle.std.specs.Prelude.{ℕ, zero, suc, ◌+◌, ◌≤◌, ◌<◌, ◌≡◌, ◌⊎◌, List, [], ◌∷◌, map, length, Err, Ok, Result, tt, ⊤}
+use Rattle.rules.specs.declared.Refusal.{Refusal}
 use Rattle.rules.specs.Base.{Outcome, refused, done, from}
 use Rattle.rules.specs.Sizes.{most_out}
 use Rattle.rules.specs.Table.{Row, Table, kind_at}
 use Rattle.rules.specs.Simulation.{State}
 use Rattle.rules.specs.Step.{Out, Happening, World}
 use Rattle.rules.proofs.Worlds.{Good}
-use Rattle.memory.specs.declared.Answer.{Answer}
-use Rattle.memory.specs.declared.Answer.TheVariants as answer
-use Rattle.memory.specs.declared.Put.{Put}
-use Rattle.memory.specs.declared.Put.TheVariants as put
 use Rattle.memory.specs.Words.{word_at, place_in, head_at, begin_in, width_of}
 use Rattle.memory.specs.View.{outs_in, state_in, WordsFit}
 
@@ -59,9 +56,9 @@ pub record Moves (event : World → Outcome World) (t : Table) (mem after : List
   pub more : List Happening → List Happening
   pub is : (log : List Happening) → event (world_in t mem log) ≡ done (world_in t after (more log))
 
-abbrev pub Does : Answer → (World → Outcome World) → Table → List ℕ → List ℕ → Type 0
-Does answer.Done event t mem after = Moves event t mem after
-Does (answer.Refused r) event t mem after = (log : List Happening) → event (world_in t mem log) ≡ refused r
+abbrev pub Does : Result ⊤ Refusal → (World → Outcome World) → Table → List ℕ → List ℕ → Type 0
+Does (Ok tt) event t mem after = Moves event t mem after
+Does (Err r) event t mem after = (log : List Happening) → event (world_in t mem log) ≡ refused r
 
 -- the n messages put out stand from `at` on
 pub record Puts (n at : ℕ) (event : World → Outcome (World × List Out)) (t : Table) (mem after : List ℕ) : Type 0 where
@@ -70,6 +67,6 @@ pub record Puts (n at : ℕ) (event : World → Outcome (World × List Out)) (t 
   pub more : List Happening → List Happening
   pub is : (log : List Happening) → event (world_in t mem log) ≡ done (world_in t after (more log), outs_in at n after)
 
-abbrev pub Gives : Put → ℕ → (World → Outcome (World × List Out)) → Table → List ℕ → List ℕ → Type 0
-Gives (put.Out n) at event t mem after = Puts n at event t mem after
-Gives (put.Refused r) at event t mem after = (log : List Happening) → event (world_in t mem log) ≡ refused r
+abbrev pub Gives : Result ℕ Refusal → ℕ → (World → Outcome (World × List Out)) → Table → List ℕ → List ℕ → Type 0
+Gives (Ok n) at event t mem after = Puts n at event t mem after
+Gives (Err r) at event t mem after = (log : List Happening) → event (world_in t mem log) ≡ refused r

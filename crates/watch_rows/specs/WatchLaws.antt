@@ -1,5 +1,5 @@
 -- A stopwatch's events in place are the rules' events on the row's state. Assumes nothing.
-use Rattle.std.specs.Prelude.{ℕ, ◌+◌, ◌^◌, ◌≤◌, ◌<◌, ◌≡◌, refl, Bool, List, [], ◌∷◌, map, length, set, take, T, eqb, ltb, Float, if◌then◌else◌}
+use Rattle.std.specs.Prelude.{ℕ, ◌+◌, ◌^◌, ◌≤◌, ◌<◌, ◌≡◌, refl, Bool, List, [], ◌∷◌, map, length, set, take, T, eqb, ltb, Float, if◌then◌else◌, Err, Ok, tt}
 use Rattle.std.proofs.Common.{arith, sym, ap, ◌∙◌, subst, inl, inr, length-set, drop-cons, get_or-set_same, get_or-set_other, ltb→lt}
 use Rattle.std.proofs.Math.Bool.{true, false}
 use Rattle.std.specs.Float.{binary64}
@@ -40,7 +40,6 @@ use Rattle.stopwatch.specs.declared.StopwatchGone.{StopwatchGone}
 use Rattle.stopwatch.specs.declared.Named.TheVariants as named
 use Rattle.stopwatch.specs.Watching.{names_of, stopwatch_of, unchanged, marked_as, marking, external_in, fetched_as, internal_from, internal_in}
 use Rattle.stopwatch.specs.WatchingLaws.{external-means, internal-means}
-use Rattle.memory.specs.declared.Answer.TheVariants as answer
 use Rattle.memory.specs.Words.{word_at, place_at, place_in, head_at, phase_in, timer_in, held_in, own_in, Own, replaced}
 use Rattle.memory.specs.View.{watching_of, watching_number, out_of, outs_in, stopwatch_in, state_in, WordsFit, Row}
 use Rattle.memory.specs.Atoms.{atom_external, atom_internal, Kept-by, Put-by}
@@ -163,13 +162,13 @@ module _ (row : Stopwatch) (clock : Float) (port job : ℕ) (s : StopwatchState)
         sound
 
 -- what an answer says of the outcome
-refused-fate : (t : Taken) (x : Refusal) → answer_of t ≡ answer.Refused x → fate_of t ≡ refused x
+refused-fate : (t : Taken) (x : Refusal) → answer_of t ≡ Err x → fate_of t ≡ refused x
 refused-fate t x e = elim (answers t) [
   | goes_on f d is ↦ let z : ◌≡◌ {A = ℕ} 0 1 = cc in absurd (omega arith)
   | stops_at r d is ↦ let same : r ≡ x = cc in is ∙ ap refused same
 ]
 
-taken-fate : (t : Taken) → answer_of t ≡ answer.Done → (f : Fate) × (fate_of t ≡ done f)
+taken-fate : (t : Taken) → answer_of t ≡ Ok tt → (f : Fate) × (fate_of t ≡ done f)
 taken-fate t e = elim (answers t) [
   | goes_on f d is ↦ (f, is)
   | stops_at r d is ↦ let z : ◌≡◌ {A = ℕ} 0 1 = cc in absurd (omega arith)
@@ -188,12 +187,12 @@ module _ (model : Stopwatch) (clock : Float) (port content b : ℕ) (mem : List 
   long : length came.1 ≡ 192
   long = external-long model clock port content (loaded mem i) (own_in b 192 mem) ∙ part_length b 192 mem row.placed.room
 
-  took-refused : (x : Refusal) → answer_of came.0.answer ≡ answer.Refused x → (services : List Float) → outcome services ≡ refused x
+  took-refused : (x : Refusal) → answer_of came.0.answer ≡ Err x → (services : List Float) → outcome services ≡ refused x
   took-refused x e services =
       let f : (stopwatch_of came.0.next came.1, refused x) ≡ handed_back (stopwatch_in b mem i) (stopwatch_external model clock port content (stopwatch_in b mem i)) = ap (λ z. (stopwatch_of came.0.next came.1, z)) (sym (refused-fate came.0.answer x e)) ∙ means in
       rw (back-refused (stopwatch_external model clock port content (stopwatch_in b mem i)) (stopwatch_in b mem i) (stopwatch_of came.0.next came.1) x f)
 
-  took-done : answer_of came.0.answer ≡ answer.Done → (services : List Float) → Kept-by (Table.stopwatch model) b i (stored i came.0.next (replaced b 192 came.1 mem)) (outcome services)
+  took-done : answer_of came.0.answer ≡ Ok tt → (services : List Float) → Kept-by (Table.stopwatch model) b i (stored i came.0.next (replaced b 192 came.1 mem)) (outcome services)
   took-done e services =
       let (f, g) = taken-fate came.0.answer e in
       let o : stopwatch_external model clock port content (stopwatch_in b mem i) ≡ done (stopwatch_of came.0.next came.1, f) = back_done (stopwatch_external model clock port content (stopwatch_in b mem i)) (stopwatch_in b mem i) (stopwatch_of came.0.next came.1) f (ap (λ z. (stopwatch_of came.0.next came.1, z)) (sym g) ∙ means) in
@@ -226,10 +225,10 @@ module _ (model : Stopwatch) (clock : Float) (port content b : ℕ) (mem : List 
     answered : answer_of came.0.answer ≡ answer_of t.answer
     answered = ap (λ (z : StopwatchTaken). answer_of z.answer) (sym is)
 
-    pub refused-in-place : (x : Refusal) → answer_of t.answer ≡ answer.Refused x → ((services : List Float) → outcome services ≡ refused x) × Own i b 192 0 0 mem mid
+    pub refused-in-place : (x : Refusal) → answer_of t.answer ≡ Err x → ((services : List Float) → outcome services ≡ refused x) × Own i b 192 0 0 mem mid
     refused-in-place x e = (took-refused x (answered ∙ e), subst (Own i b 192 0 0 mem) (sym lays) took-owns)
 
-    pub taken-in-place : (after : List ℕ) → answer_of t.answer ≡ answer.Done → after ≡ stored i t.next mid
+    pub taken-in-place : (after : List ℕ) → answer_of t.answer ≡ Ok tt → after ≡ stored i t.next mid
         → ((services : List Float) → Kept-by (Table.stopwatch model) b i after (outcome services)) × Own i b 192 0 0 mem after
     taken-in-place after e writes =
         subst (λ l. ((services : List Float) → Kept-by (Table.stopwatch model) b i l (outcome services)) × Own i b 192 0 0 mem l)

@@ -12,7 +12,6 @@ ghost use Rattle.memory.specs.Atoms.{atom_external, atom_internal, Took, Gave};
 ghost use Rattle.memory.specs.Answers.{out_word};
 ghost use Rattle.watch_rows.specs.Places.{loaded, stored, external_at, internal_at};
 
-use memory::{Answer, Put};
 use rules::{Stopwatch, StopwatchPhase};
 use stopwatch::{Named, StopwatchGone, StopwatchState, StopwatchTaken};
 
@@ -95,7 +94,7 @@ pub fn stopwatch_external(
     clock: f64,
     port: u16,
     content: u32,
-) -> Answer
+) -> Result<(), Refusal>
     requires { Row (Table.stopwatch model) (begin_in mem.old row) mem.old row × T (is_time clock) }
     ensures takes { (services : List Float) → Took result (Table.stopwatch model) (begin_in mem.old row) row mem.new (atom_external (Table.stopwatch model) services clock port content (state_in (Table.stopwatch model) (begin_in mem.old row) mem.old row) (place_in mem.old)) }
     ensures owns { Own row (begin_in mem.old row) 192 0 0 mem.old mem.new }
@@ -104,16 +103,16 @@ pub fn stopwatch_external(
     let told = taken.answer;
     let answer = memory::answer_of(told);
     match answer {
-        Answer::Refused(refusal) => Answer::Refused(refusal),
-        Answer::Done => {
+        Err(refusal) => Err(refusal),
+        Ok(()) => {
             store_stopwatch(mem, row, taken.next);
-            Answer::Done
+            Ok(())
         }
     }
 }
 
 // Its timer has run out: the stopwatch's rule, done in the row's words. What it puts out stands at `at`.
-pub fn stopwatch_internal(mem: &mut [u64], row: usize, model: Stopwatch, at: usize) -> Put
+pub fn stopwatch_internal(mem: &mut [u64], row: usize, model: Stopwatch, at: usize) -> Result<usize, Refusal>
     requires { Row (Table.stopwatch model) (begin_in mem.old row) mem.old row × (begin_in mem.old row + 192 ≤ at) × (at + 64 ≤ length mem.old) }
     ensures gives { (services : List Float) → Gave result at (Table.stopwatch model) (begin_in mem.old row) row mem.new (atom_internal (Table.stopwatch model) services (state_in (Table.stopwatch model) (begin_in mem.old row) mem.old row) (place_in mem.old)) }
     ensures owns { Own row (begin_in mem.old row) 192 at (at + 64) mem.old mem.new }
@@ -124,12 +123,12 @@ pub fn stopwatch_internal(mem: &mut [u64], row: usize, model: Stopwatch, at: usi
         Named::Job(name) => {
             put_out(mem, at, model.output, name);
             store_stopwatch(mem, row, gone.next);
-            Put::Out(1)
+            Ok(1)
         }
         Named::Nothing => {
             store_stopwatch(mem, row, gone.next);
-            Put::Out(0)
+            Ok(0)
         }
-        Named::Refused(refusal) => Put::Refused(refusal),
+        Named::Refused(refusal) => Err(refusal),
     }
 }

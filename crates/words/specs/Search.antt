@@ -1,7 +1,5 @@
 -- The search for a row among rows of words. Assumes nothing.
-use Rattle.std.specs.Prelude.{ℕ, zero, suc, ◌+◌, ◌*◌, ◌-◌, ◌/◌, Bool, ◌&&◌, List, length, get_or, ltb, eqb, if◌then◌else◌}
-use Rattle.words.specs.declared.Found.{Found}
-use Rattle.words.specs.declared.Found.TheVariants.{At, Nothing}
+use Rattle.std.specs.Prelude.{ℕ, zero, suc, ◌+◌, ◌*◌, ◌-◌, ◌/◌, Bool, ◌&&◌, List, length, get_or, ltb, eqb, if◌then◌else◌, None, Option, Some}
 use Rattle.words.specs.declared.Cell.{Cell}
 use Rattle.words.specs.declared.Key.{Key}
 
@@ -13,9 +11,9 @@ abbrev pub lesser_of : ℕ → ℕ → ℕ
 lesser_of a b = if ltb a b then a else b
 
 -- the first of the n rows from k on that passes the test
-abbrev pub first_from : (ℕ → Bool) → ℕ → ℕ → Found
-first_from test k zero = Nothing
-first_from test k (suc n) = let rest = first_from test (suc k) n in if test k then At k else rest
+abbrev pub first_from : (ℕ → Bool) → ℕ → ℕ → Option ℕ
+first_from test k zero = None
+first_from test k (suc n) = let rest = first_from test (suc k) n in if test k then Some k else rest
 
 abbrev pub holds_in : ℕ → List ℕ → ℕ → Cell → Bool
 holds_in width words k cell = eqb (cell_of width words k cell.at) cell.value
@@ -30,8 +28,8 @@ abbrev pub in_row : Key → ℕ → Bool
 in_row key width = ltb key.first.at width && ltb key.second.at width && ltb key.third.at width && ltb key.fourth.at width
 
 -- of the first `rows` rows (no more than there are whole ones), the first from `from` on that matches
-unfoldable pub next_row : Key → ℕ → ℕ → ℕ → List ℕ → Found
+unfoldable pub next_row : Key → ℕ → ℕ → ℕ → List ℕ → Option ℕ
 next_row key width from rows words =
     if in_row key width
     then first_from (matches key width words) from (lesser_of rows (length words / width) - from)
-    else Nothing
+    else None

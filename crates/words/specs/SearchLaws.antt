@@ -1,10 +1,8 @@
 -- The laws of the search for a row: its steps, the bounds of a row's cells, and what the first is among those that pass the test. Assumes nothing.
-use Rattle.std.specs.Prelude.{ℕ, zero, suc, ◌+◌, ◌*◌, ◌-◌, ◌/◌, ◌≤◌, ◌<◌, ◌≡◌, refl, Bool, true, false, ◌&&◌, List, [], ◌∷◌, length, ltb, if◌then◌else◌}
+use Rattle.std.specs.Prelude.{ℕ, zero, suc, ◌+◌, ◌*◌, ◌-◌, ◌/◌, ◌≤◌, ◌<◌, ◌≡◌, refl, Bool, true, false, ◌&&◌, List, [], ◌∷◌, length, ltb, if◌then◌else◌, None, Option, Some}
 use Rattle.std.proofs.Common.{sym, ap, ◌∙◌, arith, div-mul-le_self, mul-le-mul_right, suc-mul, add-one, ltb-true, ltb-false}
 use Rattle.std.proofs.lemmas.Bool.{false≢true}
 use Rattle.rules.specs.Base.{those, some_of, from}
-use Rattle.words.specs.declared.Found.{Found}
-use Rattle.words.specs.declared.Found.TheVariants.{At, Nothing}
 use Rattle.words.specs.declared.Key.{Key}
 use Rattle.words.specs.Search.{lesser_of, first_from, matches, in_row, next_row}
 
@@ -17,11 +15,11 @@ none_left n j h = omega arith
 -- the steps of a search that goes from `row` to before `end`
 module _ (test : ℕ → Bool) (row end : ℕ) where
   -- no row is left
-  pub search-end : end ≤ row → first_from test row (end - row) ≡ Nothing
+  pub search-end : end ≤ row → first_from test row (end - row) ≡ None
   search-end h = rw (none_left end row h)
 
   -- the row passes the test
-  pub search-hit : row < end → test row ≡ true → first_from test row (end - row) ≡ At row
+  pub search-hit : row < end → test row ≡ true → first_from test row (end - row) ≡ Some row
   search-hit h passes = rw (one_more end row h, passes)
 
   -- it does not
@@ -77,7 +75,7 @@ lesser-right a b = lesser-cases (λ k. k ≤ b) a b (λ h. h) (λ _. omega arith
 -- ---- the search of a key
 module _ (key : Key) (width from rows : ℕ) (words : List ℕ) where
   -- a key that has a cell beyond the row is nowhere
-  pub next-row-none : in_row key width ≡ false → next_row key width from rows words ≡ Nothing
+  pub next-row-none : in_row key width ≡ false → next_row key width from rows words ≡ None
   unfolding next_row
   next-row-none beyond = rw beyond
 
@@ -91,24 +89,24 @@ module _ (key : Key) (width from rows : ℕ) (words : List ℕ) where
   next-row-first inside whole = next-row-some inside ∙ rw (lesser-left rows (length words / width) whole)
 
 -- ---- the first of those that pass the test
-abbrev pub is_found : Found → Bool
-is_found (At j) = true
-is_found Nothing = false
+abbrev pub is_found : Option ℕ → Bool
+is_found (Some j) = true
+is_found None = false
 
 -- j is the first of the n from k on that pass the test, and the others come after it
 abbrev pub IsFirst : (ℕ → Bool) → ℕ → ℕ → ℕ → Type 0
 IsFirst test k n j =
     (k ≤ j) × (j < k + n) × (test j ≡ true) × (those test (from k n) ≡ j ∷ those test (from (suc j) (k + n - suc j)))
 
-pub found-not : (j : ℕ) → At j ≡ Nothing → ⊥
+pub found-not : (j : ℕ) → Some j ≡ None → ⊥
 found-not j h = let z : ◌≡◌ {A = ℕ} 0 1 = cc in omega arith
 
 module _ (test : ℕ → Bool) where
-  pub first-at : (k n j : ℕ) → first_from test k n ≡ At j → IsFirst test k n j
+  pub first-at : (k n j : ℕ) → first_from test k n ≡ Some j → IsFirst test k n j
   first-at k zero j h = elim (found-not j (sym h)) [ ]
   first-at k (suc n) j h = by (test k) refl h (first-at (suc k) n j)
     where
-      by : (t : Bool) → test k ≡ t → (if t then At k else first_from test (suc k) n) ≡ At j → (first_from test (suc k) n ≡ At j → IsFirst test (suc k) n j) → IsFirst test k (suc n) j
+      by : (t : Bool) → test k ≡ t → (if t then Some k else first_from test (suc k) n) ≡ Some j → (first_from test (suc k) n ≡ Some j → IsFirst test (suc k) n j) → IsFirst test k (suc n) j
       by true passes h later =
           let same : k ≡ j = cc in
           let left : n ≡ k + suc n - suc k = omega arith in
@@ -118,11 +116,11 @@ module _ (test : ℕ → Bool) where
           let left : suc k + n - suc j ≡ k + suc n - suc j = omega arith in
           rw fails (omega arith, omega arith, l.2, l.3 ∙ ap (λ (m : ℕ). j ∷ those test (from (suc j) m)) left)
 
-  pub first-nothing : (k n : ℕ) → first_from test k n ≡ Nothing → those test (from k n) ≡ []
+  pub first-nothing : (k n : ℕ) → first_from test k n ≡ None → those test (from k n) ≡ []
   first-nothing k zero h = refl
   first-nothing k (suc n) h = by (test k) h (first-nothing (suc k) n)
     where
-      by : (t : Bool) → (if t then At k else first_from test (suc k) n) ≡ Nothing → (first_from test (suc k) n ≡ Nothing → those test (from (suc k) n) ≡ []) → (if t then k ∷ those test (from (suc k) n) else those test (from (suc k) n)) ≡ []
+      by : (t : Bool) → (if t then Some k else first_from test (suc k) n) ≡ None → (first_from test (suc k) n ≡ None → those test (from (suc k) n) ≡ []) → (if t then k ∷ those test (from (suc k) n) else those test (from (suc k) n)) ≡ []
       by true h later = elim (found-not k h) [ ]
       by false h later = later h
 
@@ -130,7 +128,7 @@ module _ (test : ℕ → Bool) where
   first_some k zero = refl
   first_some k (suc n) = by (test k) (first_some (suc k) n)
     where
-      by : (t : Bool) → is_found (first_from test (suc k) n) ≡ some_of test (from (suc k) n) → is_found (if t then At k else first_from test (suc k) n) ≡ (if t then true else some_of test (from (suc k) n))
+      by : (t : Bool) → is_found (first_from test (suc k) n) ≡ some_of test (from (suc k) n) → is_found (if t then Some k else first_from test (suc k) n) ≡ (if t then true else some_of test (from (suc k) n))
       by true later = refl
       by false later = later
 
@@ -141,5 +139,5 @@ first-ext f g k (suc n) agree =
     rw (agree k (omega arith) (omega arith), first-ext f g (suc k) n (λ j h below. agree j (omega arith) (omega arith)))
 
 -- a search up to a count that is the list's length
-pub found-to : (test : ℕ → Bool) (start end n : ℕ) (r x : Found) → end ≡ n → r ≡ first_from test start (n - start) → r ≡ x → first_from test start (end - start) ≡ x
+pub found-to : (test : ℕ → Bool) (start end n : ℕ) (r x : Option ℕ) → end ≡ n → r ≡ first_from test start (n - start) → r ≡ x → first_from test start (end - start) ≡ x
 found-to test start end n r x whole h e = rw whole (sym h ∙ e)

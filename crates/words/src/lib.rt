@@ -5,12 +5,6 @@ ghost use Rattle.std.specs.Prelude.{◌≡◌, true, ◌+◌, ◌-◌, ◌/◌, 
 ghost use Rattle.words.specs.Queue.{cleared, moved_up};
 ghost use Rattle.words.specs.Search.{lesser_of, in_row, matches, next_row};
 
-#[derive(Clone, Copy)]
-pub enum Found {
-    At(usize),
-    Nothing,
-}
-
 // A cell of a row, and the word that must stand in it.
 #[derive(Clone, Copy)]
 pub struct Cell {
@@ -118,19 +112,19 @@ fn matches_at(words: &[u64], width: usize, row: usize, key: Key) -> bool
 }
 
 // The first row from `from` on, of the first `rows` rows of `width` words, in which each of the key's cells holds its word; or Nothing.
-pub fn next_row(words: &[u64], width: usize, from: usize, rows: usize, key: Key) -> Found
+pub fn next_row(words: &[u64], width: usize, from: usize, rows: usize, key: Key) -> Option<usize>
     ensures { result ≡ next_row key width from rows words.now }
 {
     if !in_row(key, width) {
-        return Found::Nothing;
+        return None;
     }
     let end = lesser(rows, words.len() / width);
     let mut row = from;
     while row < end {
         if matches_at(words, width, row, key) {
-            return Found::At(row);
+            return Some(row);
         }
         row += 1;
     }
-    Found::Nothing
+    None
 }

@@ -99,23 +99,23 @@ returns-in-Reached c =
     let g = subst (λ (r : Next). Nexts r a.services.now a.until (room - c.loop-steps.written) t c.loop-steps.mem after) c.in-Reached.is c.next_step.ensures.nexts in
     let all = arrives a.services.now a.until room a.bound t (sim_of state) a.rows.now c.loop-steps.mem c.loop-steps.rows c.loop-steps.steps c.loop-steps.written c.loop-steps.invariant.2 after c.loop-steps-test.true g in record { told = all }
 
-pub shape_of-mem-in-Refused : goal.shape_of-mem-in-Refused
-shape_of-mem-in-Refused c =
+pub shape_of-mem-in-Err : goal.shape_of-mem-in-Err
+shape_of-mem-in-Err c =
     c.next_step.ensures.long ∙ c.loop-steps.invariant.0 ∙ c.begin-active.auto.mem
 
-pub shape_of-rows-in-Refused : goal.shape_of-rows-in-Refused
-shape_of-rows-in-Refused c =
+pub shape_of-rows-in-Err : goal.shape_of-rows-in-Err
+shape_of-rows-in-Err c =
     c.loop-steps.invariant.1
 
-pub returns-in-Refused : goal.returns-in-Refused
-returns-in-Refused c =
+pub returns-in-Err : goal.returns-in-Err
+returns-in-Err c =
     let a = c.args in
     let state = a.state.now in
     let t = table_in state in
     let after = c.next_step.new.mem in
     let room = room_in a.rows.now in
-    let refusal = c.in-Refused.refusal in
-    let g = subst (λ (r : Next). Nexts r a.services.now a.until (room - c.loop-steps.written) t c.loop-steps.mem after) c.in-Refused.is c.next_step.ensures.nexts in
+    let refusal = c.in-Err.refusal in
+    let g = subst (λ (r : Next). Nexts r a.services.now a.until (room - c.loop-steps.written) t c.loop-steps.mem after) c.in-Err.is c.next_step.ensures.nexts in
     let all = refuses a.services.now a.until room a.bound t (sim_of state) a.rows.now c.loop-steps.mem c.loop-steps.rows c.loop-steps.steps c.loop-steps.written c.loop-steps.invariant.2 refusal after c.loop-steps-test.true g in record { told = all }
 
 pub shape_of-mem : goal.shape_of-mem

@@ -29,15 +29,15 @@ hand_one-requires c =
     let p = c.requires in
     (p.0, loop.invariant.ready, p.2, p.3, p.4, omega (arith, p.5, p.6, loop.invariant.frame.long), loop.invariant.few)
 
-pub returns-in-Refused : goal.returns-in-Refused
-returns-in-Refused c =
+pub returns-in-Err : goal.returns-in-Err
+returns-in-Err c =
     let loop = c.loop-next in
     let hand-one = c.hand_one in
     let a = c.args in
     let p = c.requires in
     let t = table_in a.state.now in
     let after = hand-one.new.mem in
-    record { hands = handing-stops t a.row a.component a.from a.messages a.at a.count a.mem.now p.6 p.4 p.5 p.7 loop.next loop.held loop.mem loop.invariant c.loop-next-test.true after hand-one.result hand-one.ensures.hands _ c.in-Refused.is; frame = frame_then t a.at (a.at + 256) a.mem.now loop.mem after loop.invariant.frame hand-one.ensures.frame }
+    record { hands = handing-stops t a.row a.component a.from a.messages a.at a.count a.mem.now p.6 p.4 p.5 p.7 loop.next loop.held loop.mem loop.invariant c.loop-next-test.true after hand-one.result hand-one.ensures.hands _ c.in-Err.is; frame = frame_then t a.at (a.at + 256) a.mem.now loop.mem after loop.invariant.frame hand-one.ensures.frame }
 
 pub overflow_add-next : goal.overflow_add-next
 overflow_add-next c = omega (arith, c.requires.7)
@@ -53,7 +53,7 @@ loop-next-preserved c =
     let p = c.requires in
     let t = table_in a.state.now in
     let after = hand-one.new.mem in
-    handing-on t a.row a.component a.from a.messages a.at a.count a.mem.now p.6 p.4 p.5 p.7 loop.next loop.held loop.mem loop.invariant c.loop-next-test.true after hand-one.result hand-one.ensures.hands _ c.in-Out.is hand-one.ensures.frame
+    handing-on t a.row a.component a.from a.messages a.at a.count a.mem.now p.6 p.4 p.5 p.7 loop.next loop.held loop.mem loop.invariant c.loop-next-test.true after hand-one.result hand-one.ensures.hands _ c.in-Ok.is hand-one.ensures.frame
 
 pub returns : goal.returns
 returns c =

@@ -1,9 +1,10 @@
 -- `handing::hand_one` meets its contract: parked, then put out past the words that parking touches. Assumes nothing.
+use Rattle.std.specs.Prelude.{Result, ⊤}
+use Rattle.rules.specs.declared.Refusal.{Refusal}
 use mathlib.Core.Path.{subst₂}
 use mathlib.Core.List.{[]}
 use Prim.Native.Nat.{ℕ, ◌+◌}
 use Rattle.rules.specs.Step.{out_at}
-use Rattle.memory.specs.declared.Answer.{Answer}
 use Rattle.views.specs.World.{Does}
 use Rattle.views.proofs.Frames.{frame-none}
 use Rattle.lookup.specs.Inside.{table_in}
@@ -11,14 +12,14 @@ use Rattle.handing.specs.Handing.{park_from, outs_from, Fills}
 use Rattle.handing.proofs.Hands.{hand-stops, hand-puts, hand-frame}
 use Rattle.handing.proofs.hand_one.Goals as goal
 
-pub returns-in-Refused : goal.returns-in-Refused
-returns-in-Refused c =
+pub returns-in-Err : goal.returns-in-Err
+returns-in-Err c =
     let park-all = c.park_all in
     let a = c.args in
     let p = c.requires in
     let t = table_in a.state.now in
     let mid = park-all.new.mem in
-    let parks = subst₂ (λ (source : ℕ) (r : Answer). Does r (park_from t a.row source a.port a.content) t a.mem.now mid) c.id_of-source.ensures c.in-Refused.is park-all.ensures.parks in
+    let parks = subst₂ (λ (source : ℕ) (r : Result ⊤ Refusal). Does r (park_from t a.row source a.port a.content) t a.mem.now mid) c.id_of-source.ensures c.in-Err.is park-all.ensures.parks in
     record { hands = λ services. hand-stops t services a.row a.component (out_at a.port a.content) a.at a.count p.4 p.6 a.mem.now mid p.5 park-all.ensures.frame _ parks; frame = frame-none t a.at (a.at + 256) a.mem.now mid park-all.ensures.frame }
 
 pub returns : goal.returns
@@ -31,6 +32,6 @@ returns c =
     let t = table_in a.state.now in
     let mid = park-all.new.mem in
     let after = put_all_lem.new.mem in
-    let parks = subst₂ (λ (source : ℕ) (r : Answer). Does r (park_from t a.row source a.port a.content) t a.mem.now mid) id-of2.ensures c.in-Done.is park-all.ensures.parks in
+    let parks = subst₂ (λ (source : ℕ) (r : Result ⊤ Refusal). Does r (park_from t a.row source a.port a.content) t a.mem.now mid) id-of2.ensures c.in-Ok.is park-all.ensures.parks in
     let fills = subst₂ (λ (owner source : ℕ). Fills put_all_lem.result a.at a.count (outs_from t owner source a.port a.content) mid after) c.id_of-owner.ensures id-of2.ensures put_all_lem.ensures.puts in
     record { hands = λ services. hand-puts t services a.row a.component (out_at a.port a.content) a.at a.count p.4 p.6 a.mem.now mid p.5 park-all.ensures.frame parks after put_all_lem.ensures.beside put_all_lem.result fills; frame = hand-frame t [] a.row a.component (out_at a.port a.content) a.at a.count p.4 p.6 a.mem.now mid p.5 park-all.ensures.frame after put_all_lem.ensures.beside }

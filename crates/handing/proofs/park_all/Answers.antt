@@ -14,13 +14,13 @@ use Rattle.handing.proofs.park_all.Goals as goal
 pub loop-from-init : goal.loop-from-init
 loop-from-init c = going_start _ _ _ _ _ c.requires.1
 
-pub returns-in-Nothing : goal.returns-in-Nothing
-returns-in-Nothing c =
+pub returns-in-None : goal.returns-in-None
+returns-in-None c =
     let loop = c.loop-from in
     let a = c.args in
     let p = c.requires in
     let s = a.state.now in
-    let found = found-along s a.row a.source a.port a.content p.0 _ c.id_of-owner.ensures loop.from _ _ c.next_internal.ensures c.in-Nothing.is in
+    let found = found-along s a.row a.source a.port a.content p.0 _ c.id_of-owner.ensures loop.from _ _ c.next_internal.ensures c.in-None.is in
     record { parks = parks-moves s a.row a.source a.port a.content p.0 p.2 p.3 a.mem.now p.1 loop.mem (going-none _ _ _ _ _ loop.from loop.mem loop.invariant found); frame = loop.invariant.frame }
 
 pub park-requires : goal.park-requires
@@ -30,25 +30,25 @@ park-requires c =
     let a = c.args in
     let p = c.requires in
     let s = a.state.now in
-    let j = c.in-At.coupling in
-    let found = found-along s a.row a.source a.port a.content p.0 _ c.id_of-owner.ensures loop.from _ _ c.next_internal.ensures c.in-At.is in
+    let j = c.in-Some.coupling in
+    let found = found-along s a.row a.source a.port a.content p.0 _ c.id_of-owner.ensures loop.from _ _ c.next_internal.ensures c.in-Some.is in
     let bounds = sweep-bounds {S = ℕ} (λ k s. done s) (is_along s a.row a.source a.port a.content) loop.from (length (table_in s).couplings) 0 j found in
     target_row s a.row a.source a.port a.content p.0 p.2 p.3 loop.mem loop.invariant.ready j bounds.1 (omega (arith, c.ranges.content)) _ _ coupling-target.ensures.0 coupling-target.ensures.1
 
-pub returns-in-Refused : goal.returns-in-Refused
-returns-in-Refused c =
+pub returns-in-Err : goal.returns-in-Err
+returns-in-Err c =
     let park = c.park in
     let loop = c.loop-from in
     let a = c.args in
     let p = c.requires in
     let s = a.state.now in
-    let j = c.in-At.coupling in
-    let found = found-along s a.row a.source a.port a.content p.0 _ c.id_of-owner.ensures loop.from _ _ c.next_internal.ensures c.in-At.is in
+    let j = c.in-Some.coupling in
+    let found = found-along s a.row a.source a.port a.content p.0 _ c.id_of-owner.ensures loop.from _ _ c.next_internal.ensures c.in-Some.is in
     let bounds = sweep-bounds {S = ℕ} (λ k s. done s) (is_along s a.row a.source a.port a.content) loop.from (length (table_in s).couplings) 0 j found in
     let to = c.coupling_target-to.ensures in
     let after = park.new.mem in
     let frame = parks-frame s a.row a.source a.port a.content p.0 p.2 p.3 loop.mem loop.invariant.ready j bounds.1 (omega (arith, c.ranges.content)) _ _ to.0 to.1 after park.ensures.owns park.ensures.place in
-    let stops = parks-at s a.row a.source a.port a.content p.0 p.2 p.3 loop.mem loop.invariant.ready j bounds.1 (omega (arith, c.ranges.content)) _ _ to.0 to.1 after park.ensures.owns park.ensures.place _ park.ensures.parks _ c.in-Refused.is in
+    let stops = parks-at s a.row a.source a.port a.content p.0 p.2 p.3 loop.mem loop.invariant.ready j bounds.1 (omega (arith, c.ranges.content)) _ _ to.0 to.1 after park.ensures.owns park.ensures.place _ park.ensures.parks _ c.in-Err.is in
     record { parks = parks-stops s a.row a.source a.port a.content p.0 p.2 p.3 a.mem.now p.1 _ (going-stops _ _ _ _ _ loop.from loop.mem loop.invariant j _ after found stops); frame = frame_then _ 0 0 a.mem.now loop.mem after loop.invariant.frame frame }
 
 pub overflow_add-from : goal.overflow_add-from
@@ -56,8 +56,8 @@ overflow_add-from c =
     let loop = c.loop-from in
     let a = c.args in
     let s = a.state.now in
-    let found = found-along s a.row a.source a.port a.content c.requires.0 _ c.id_of-owner.ensures loop.from _ _ c.next_internal.ensures c.in-At.is in
-    let bounds = sweep-bounds {S = ℕ} (λ k s. done s) (is_along s a.row a.source a.port a.content) loop.from (length (table_in s).couplings) 0 c.in-At.coupling found in
+    let found = found-along s a.row a.source a.port a.content c.requires.0 _ c.id_of-owner.ensures loop.from _ _ c.next_internal.ensures c.in-Some.is in
+    let bounds = sweep-bounds {S = ℕ} (λ k s. done s) (is_along s a.row a.source a.port a.content) loop.from (length (table_in s).couplings) 0 c.in-Some.coupling found in
     omega (arith, bounds.1, (sizes-in s c.requires.0).2)
 
 pub loop-from-smaller : goal.loop-from-smaller
@@ -65,8 +65,8 @@ loop-from-smaller c =
     let loop = c.loop-from in
     let a = c.args in
     let s = a.state.now in
-    let found = found-along s a.row a.source a.port a.content c.requires.0 _ c.id_of-owner.ensures loop.from _ _ c.next_internal.ensures c.in-At.is in
-    let bounds = sweep-bounds {S = ℕ} (λ k s. done s) (is_along s a.row a.source a.port a.content) loop.from (length (table_in s).couplings) 0 c.in-At.coupling found in
+    let found = found-along s a.row a.source a.port a.content c.requires.0 _ c.id_of-owner.ensures loop.from _ _ c.next_internal.ensures c.in-Some.is in
+    let bounds = sweep-bounds {S = ℕ} (λ k s. done s) (is_along s a.row a.source a.port a.content) loop.from (length (table_in s).couplings) 0 c.in-Some.coupling found in
     omega (arith, bounds.0, bounds.1, c.coupling_count-end.ensures)
 
 pub loop-from-preserved : goal.loop-from-preserved
@@ -76,13 +76,13 @@ loop-from-preserved c =
     let a = c.args in
     let p = c.requires in
     let s = a.state.now in
-    let j = c.in-At.coupling in
-    let found = found-along s a.row a.source a.port a.content p.0 _ c.id_of-owner.ensures loop.from _ _ c.next_internal.ensures c.in-At.is in
+    let j = c.in-Some.coupling in
+    let found = found-along s a.row a.source a.port a.content p.0 _ c.id_of-owner.ensures loop.from _ _ c.next_internal.ensures c.in-Some.is in
     let bounds = sweep-bounds {S = ℕ} (λ k s. done s) (is_along s a.row a.source a.port a.content) loop.from (length (table_in s).couplings) 0 j found in
     let to = c.coupling_target-to.ensures in
     let after = park.new.mem in
     let frame = parks-frame s a.row a.source a.port a.content p.0 p.2 p.3 loop.mem loop.invariant.ready j bounds.1 (omega (arith, c.ranges.content)) _ _ to.0 to.1 after park.ensures.owns park.ensures.place in
-    let moves = parks-at s a.row a.source a.port a.content p.0 p.2 p.3 loop.mem loop.invariant.ready j bounds.1 (omega (arith, c.ranges.content)) _ _ to.0 to.1 after park.ensures.owns park.ensures.place _ park.ensures.parks _ c.in-Done.is in
+    let moves = parks-at s a.row a.source a.port a.content p.0 p.2 p.3 loop.mem loop.invariant.ready j bounds.1 (omega (arith, c.ranges.content)) _ _ to.0 to.1 after park.ensures.owns park.ensures.place _ park.ensures.parks _ c.in-Ok.is in
     going_on _ _ _ _ _ loop.from loop.mem loop.invariant j after found moves frame
 
 pub returns : goal.returns

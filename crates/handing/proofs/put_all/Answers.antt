@@ -16,13 +16,13 @@ loop-from-init c =
     let s = a.state.now in
     put-start s a.owner a.source a.port a.content a.at a.count a.mem.now p.2
 
-pub returns-in-Nothing : goal.returns-in-Nothing
-returns-in-Nothing c =
+pub returns-in-None : goal.returns-in-None
+returns-in-None c =
     let loop = c.loop-from in
     let a = c.args in
     let p = c.requires in
     let s = a.state.now in
-    record { puts = put-none s a.owner a.source a.port a.content a.at a.count a.mem.now p.0 p.2 p.1 loop.from loop.held loop.mem loop.invariant (found-out s a.owner a.source a.port a.content a.at a.count a.mem.now loop.from _ _ c.next_output.ensures c.in-Nothing.is); beside = loop.invariant.beside }
+    record { puts = put-none s a.owner a.source a.port a.content a.at a.count a.mem.now p.0 p.2 p.1 loop.from loop.held loop.mem loop.invariant (found-out s a.owner a.source a.port a.content a.at a.count a.mem.now loop.from _ _ c.next_output.ensures c.in-None.is); beside = loop.invariant.beside }
 
 pub returns-then-held-eq256 : goal.returns-then-held-eq256
 returns-then-held-eq256 c =
@@ -30,8 +30,8 @@ returns-then-held-eq256 c =
     let a = c.args in
     let p = c.requires in
     let s = a.state.now in
-    let j = c.in-At.coupling in
-    let found = found-out s a.owner a.source a.port a.content a.at a.count a.mem.now loop.from _ _ c.next_output.ensures c.in-At.is in
+    let j = c.in-Some.coupling in
+    let found = found-out s a.owner a.source a.port a.content a.at a.count a.mem.now loop.from _ _ c.next_output.ensures c.in-Some.is in
     record { puts = put_full s a.owner a.source a.port a.content a.at a.count a.mem.now p.0 p.2 p.1 loop.from loop.held loop.mem loop.invariant j found c.if-held-eq256.true; beside = loop.invariant.beside }
 
 pub overflow_mul-word : goal.overflow_mul-word
@@ -40,8 +40,8 @@ overflow_mul-word c =
     let a = c.args in
     let p = c.requires in
     let s = a.state.now in
-    let j = c.in-At.coupling in
-    let found = found-out s a.owner a.source a.port a.content a.at a.count a.mem.now loop.from _ _ c.next_output.ensures c.in-At.is in
+    let j = c.in-Some.coupling in
+    let found = found-out s a.owner a.source a.port a.content a.at a.count a.mem.now loop.from _ _ c.next_output.ensures c.in-Some.is in
     let bounds = sweep-bounds {S = ℕ} (λ k s. done s) (is_out s a.owner a.source a.port a.content a.at a.count a.mem.now) loop.from (length (table_in s).couplings) 0 j found in
     let fits = coupling-fits s p.0 j bounds.1 in
     omega (arith, fits.1, c.coupling_target-to.ensures.1)
@@ -52,8 +52,8 @@ overflow_add-word c =
     let a = c.args in
     let p = c.requires in
     let s = a.state.now in
-    let j = c.in-At.coupling in
-    let found = found-out s a.owner a.source a.port a.content a.at a.count a.mem.now loop.from _ _ c.next_output.ensures c.in-At.is in
+    let j = c.in-Some.coupling in
+    let found = found-out s a.owner a.source a.port a.content a.at a.count a.mem.now loop.from _ _ c.next_output.ensures c.in-Some.is in
     let bounds = sweep-bounds {S = ℕ} (λ k s. done s) (is_out s a.owner a.source a.port a.content a.at a.count a.mem.now) loop.from (length (table_in s).couplings) 0 j found in
     let fits = coupling-fits s p.0 j bounds.1 in
     omega (arith, fits.1, c.coupling_target-to.ensures.1)
@@ -79,8 +79,8 @@ overflow_add-from c =
     let a = c.args in
     let p = c.requires in
     let s = a.state.now in
-    let j = c.in-At.coupling in
-    let found = found-out s a.owner a.source a.port a.content a.at a.count a.mem.now loop.from _ _ c.next_output.ensures c.in-At.is in
+    let j = c.in-Some.coupling in
+    let found = found-out s a.owner a.source a.port a.content a.at a.count a.mem.now loop.from _ _ c.next_output.ensures c.in-Some.is in
     let bounds = sweep-bounds {S = ℕ} (λ k s. done s) (is_out s a.owner a.source a.port a.content a.at a.count a.mem.now) loop.from (length (table_in s).couplings) 0 j found in
     omega (arith, bounds.1, (sizes-in s p.0).2)
 
@@ -89,8 +89,8 @@ loop-from-smaller c =
     let loop = c.loop-from in
     let a = c.args in
     let s = a.state.now in
-    let j = c.in-At.coupling in
-    let found = found-out s a.owner a.source a.port a.content a.at a.count a.mem.now loop.from _ _ c.next_output.ensures c.in-At.is in
+    let j = c.in-Some.coupling in
+    let found = found-out s a.owner a.source a.port a.content a.at a.count a.mem.now loop.from _ _ c.next_output.ensures c.in-Some.is in
     let bounds = sweep-bounds {S = ℕ} (λ k s. done s) (is_out s a.owner a.source a.port a.content a.at a.count a.mem.now) loop.from (length (table_in s).couplings) 0 j found in
     omega (arith, bounds.0, bounds.1, c.coupling_count-end.ensures)
 
@@ -100,8 +100,8 @@ loop-from-preserved c =
     let a = c.args in
     let p = c.requires in
     let s = a.state.now in
-    let j = c.in-At.coupling in
-    let found = found-out s a.owner a.source a.port a.content a.at a.count a.mem.now loop.from _ _ c.next_output.ensures c.in-At.is in
+    let j = c.in-Some.coupling in
+    let found = found-out s a.owner a.source a.port a.content a.at a.count a.mem.now loop.from _ _ c.next_output.ensures c.in-Some.is in
     put_on s a.owner a.source a.port a.content a.at a.count a.mem.now p.0 p.2 p.1 loop.from loop.held loop.mem loop.invariant j found _ c.coupling_target-to.ensures.1 (omega (arith, c.ranges.content)) (let f = loop.invariant.few in let n = c.if-held-eq256.false in omega arith)
 
 pub returns : goal.returns

@@ -8,12 +8,12 @@ use Rattle.words.specs.SearchLaws.{is_found}
 use Rattle.hints.specs.NamingLaws.{port-found}
 use Rattle.hints.proofs.coupled_has.Goals as goal
 
-pub returns-in-At : goal.returns-in-At
-returns-in-At c =
+pub returns-in-Some : goal.returns-in-Some
+returns-in-Some c =
     let a = c.args in
-    sym (ap is_found c.in-At.is) ∙ port-found a.couplings.now a.owner a.port a.side (c.next_row.ensures ∙ ap (λ (key : Key). next_row key 6 0 (length a.couplings.now / 6) a.couplings.now) c.port_key-key.ensures)
+    sym (ap is_found c.in-Some.is) ∙ port-found a.couplings.now a.owner a.port a.side (c.next_row.ensures ∙ ap (λ (key : Key). next_row key 6 0 (length a.couplings.now / 6) a.couplings.now) c.port_key-key.ensures)
 
-pub returns-in-Nothing : goal.returns-in-Nothing
-returns-in-Nothing c =
+pub returns-in-None : goal.returns-in-None
+returns-in-None c =
     let a = c.args in
-    sym (ap is_found c.in-Nothing.is) ∙ port-found a.couplings.now a.owner a.port a.side (c.next_row.ensures ∙ ap (λ (key : Key). next_row key 6 0 (length a.couplings.now / 6) a.couplings.now) c.port_key-key.ensures)
+    sym (ap is_found c.in-None.is) ∙ port-found a.couplings.now a.owner a.port a.side (c.next_row.ensures ∙ ap (λ (key : Key). next_row key 6 0 (length a.couplings.now / 6) a.couplings.now) c.port_key-key.ensures)

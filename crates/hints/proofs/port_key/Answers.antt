@@ -4,5 +4,5 @@ use Rattle.hints.proofs.port_key.Goals as goal
 pub returns-in-In : goal.returns-in-In
 returns-in-In c = rw c.in-In.is
 
-pub returns-in-Out : goal.returns-in-Out
-returns-in-Out c = rw c.in-Out.is
+pub returns-in-Ok : goal.returns-in-Ok
+returns-in-Ok c = rw c.in-Ok.is

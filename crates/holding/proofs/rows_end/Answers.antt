@@ -33,18 +33,18 @@ row_end-requires c =
     let b = begin-room t c.args.mem.now c.loop-row.row (omega arith) in
     (c.requires.0, omega arith, omega arith, omega arith)
 
-pub returns-in-Bad : goal.returns-in-Bad
-returns-in-Bad c =
+pub returns-in-None : goal.returns-in-None
+returns-in-None c =
     let a = c.args in
     let t = table_in a.state.now in
     rows-bad t a.mem.now
-    (sym c.loop-row.invariant.2 ∙ rows-stop t a.mem.now c.loop-row.row c.row_count-rows.result c.loop-row.begin c.loop-row-test.true c.row_count-rows.ensures c.loop-row.invariant.1 (sym c.row_end.ensures ∙ c.in-Bad.is))
+    (sym c.loop-row.invariant.2 ∙ rows-stop t a.mem.now c.loop-row.row c.row_count-rows.result c.loop-row.begin c.loop-row-test.true c.row_count-rows.ensures c.loop-row.invariant.1 (sym c.row_end.ensures ∙ c.in-None.is))
 
 pub loop-row-preserved : goal.loop-row-preserved
 loop-row-preserved c =
     let a = c.args in
     let t = table_in a.state.now in
-    let on = rows_on t a.mem.now c.loop-row.row c.row_count-rows.result c.loop-row.begin c.loop-row-test.true c.row_count-rows.ensures c.loop-row.invariant.1 c.in-At.end (sym c.row_end.ensures ∙ c.in-At.is) in
+    let on = rows_on t a.mem.now c.loop-row.row c.row_count-rows.result c.loop-row.begin c.loop-row-test.true c.row_count-rows.ensures c.loop-row.invariant.1 c.in-Some.end (sym c.row_end.ensures ∙ c.in-Some.is) in
     (search rules, on.0, sym on.1 ∙ c.loop-row.invariant.2)
 
 pub returns : goal.returns

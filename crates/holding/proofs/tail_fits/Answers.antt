@@ -16,15 +16,15 @@ returns-then-not-is_time c =
 pub messages_fit-requires : goal.messages_fit-requires
 messages_fit-requires c =
     let t = table_in c.args.state.now in
-    let e = (rows_tell t c.args.mem.now c.in-At.end (sym c.rows_end.ensures ∙ c.in-At.is)).1 in
+    let e = (rows_tell t c.args.mem.now c.in-Some.end (sym c.rows_end.ensures ∙ c.in-Some.is)).1 in
     let r = end-room t c.args.mem.now in
     omega (arith, c.if-mem-gt256.false, c.requires.1)
 
-pub returns-in-At : goal.returns-in-At
-returns-in-At c =
+pub returns-in-Some : goal.returns-in-Some
+returns-in-Some c =
     c.messages_fit.ensures
-    ∙ tail-rest (table_in c.args.state.now) c.args.mem.now c.if-mem-gt256.false (sym c.is_time.ensures ∙ c.if-not-is_time.false) c.in-At.end (sym c.rows_end.ensures ∙ c.in-At.is)
+    ∙ tail-rest (table_in c.args.state.now) c.args.mem.now c.if-mem-gt256.false (sym c.is_time.ensures ∙ c.if-not-is_time.false) c.in-Some.end (sym c.rows_end.ensures ∙ c.in-Some.is)
 
-pub returns-in-Bad : goal.returns-in-Bad
-returns-in-Bad c =
-    tail-bad (table_in c.args.state.now) c.args.mem.now (sym c.rows_end.ensures ∙ c.in-Bad.is)
+pub returns-in-None : goal.returns-in-None
+returns-in-None c =
+    tail-bad (table_in c.args.state.now) c.args.mem.now (sym c.rows_end.ensures ∙ c.in-None.is)

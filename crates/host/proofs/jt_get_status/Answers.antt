@@ -37,8 +37,8 @@ returns-in-Parked c =
     let h = status-told c.args.report.now (call_in (Calls.get_status c.args.id) c.args.state.now) c.get_status.result (status.Parked count) c.get_status.ensures c.in-Parked.is in
     record { answers = c.say-in-Parked.ensures.answers ∙ h.0; tells = c.say-in-Parked.ensures.says ∙ h.1 }
 
-pub returns-in-Refused : goal.returns-in-Refused
-returns-in-Refused c =
-    let refusal = c.in-Refused.refusal in
-    let h = status-told c.args.report.now (call_in (Calls.get_status c.args.id) c.args.state.now) c.get_status.result (status.Refused refusal) c.get_status.ensures c.in-Refused.is in
+pub returns-in-Err : goal.returns-in-Err
+returns-in-Err c =
+    let refusal = c.in-Err.refusal in
+    let h = status-told c.args.report.now (call_in (Calls.get_status c.args.id) c.args.state.now) c.get_status.result (status.Refused refusal) c.get_status.ensures c.in-Err.is in
     record { answers = c.number.ensures ∙ h.0; tells = h.1 }

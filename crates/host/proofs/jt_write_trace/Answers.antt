@@ -13,8 +13,8 @@ returns-in-Bytes c =
     let h = written-told a.written.now (write_trace six a.rows.now a.start (length a.file.now)) c.write_trace.result (written.Bytes c.in-Bytes.bytes) c.write_trace.ensures.answers c.in-Bytes.is in
     record { answers = h.0; leaves = c.write_trace.ensures.leaves; tells = h.1 }
 
-pub returns-in-Refused : goal.returns-in-Refused
-returns-in-Refused c =
+pub returns-in-Err : goal.returns-in-Err
+returns-in-Err c =
     let a = c.args in
-    let h = written-told a.written.now (write_trace six a.rows.now a.start (length a.file.now)) c.write_trace.result (written.Refused c.in-Refused.refusal) c.write_trace.ensures.answers c.in-Refused.is in
+    let h = written-told a.written.now (write_trace six a.rows.now a.start (length a.file.now)) c.write_trace.result (written.Refused c.in-Err.refusal) c.write_trace.ensures.answers c.in-Err.is in
     record { answers = c.number.ensures ∙ h.0; leaves = c.write_trace.ensures.leaves; tells = h.1 }

@@ -1,4 +1,6 @@
 -- `internal_events::internal`, `coupled_internal`, `turns` and `turn` meet their contracts. The loop: what is left of the turns, from the words and the messages as they stand, is the whole from the words at first. Assumes nothing.
+use Rattle.std.specs.Prelude.{Err, Ok, Result, ⊤}
+use Rattle.rules.specs.declared.Refusal.{Refusal}
 use mathlib.Core.Path.{◌≡◌, refl, sym, ap, subst, ◌∙◌}
 use mathlib.Core.Logic.{inr}
 use native.Mathlib.Omega.{arith}
@@ -10,9 +12,6 @@ use Rattle.rules.specs.Table.{id_at, kind_at, coupled}
 use Rattle.rules.specs.Step as Step
 use Rattle.rules.specs.Depth.{Deep}
 use Rattle.selection.specs.Selected.{sweep-bounds}
-use Rattle.memory.specs.declared.Answer.{Answer}
-use Rattle.memory.specs.declared.Put.{Put}
-use Rattle.memory.specs.declared.Put.TheVariants.{Out, Refused}
 use Rattle.memory.specs.Words.{begin_in}
 use Rattle.memory.specs.View.{outs_in, parked_in}
 use Rattle.lookup.specs.Inside.{table_in}
@@ -41,7 +40,7 @@ coupled_internal-empty-requires t c =
     let a = c.args in
     let t' = table_in a.state.now in
     let mid = c.unpark.new.mem in
-    let m = subst (λ (r : Answer). Does r (Step.unpark t' a.services.now (Step.external t' a.services.now a.depth a.clock) a.row (parked_in (begin_of t' a.row) a.mem.now a.row)) t' a.mem.now mid) c.in-Done.is c.unpark.ensures.does in
+    let m = subst (λ (r : Result ⊤ Refusal). Does r (Step.unpark t' a.services.now (Step.external t' a.services.now a.depth a.clock) a.row (parked_in (begin_of t' a.row) a.mem.now a.row)) t' a.mem.now mid) c.in-Ok.is c.unpark.ensures.does in
     row-kind t' mid a.row c.requires.0.in_table m.ready coupled c.requires.1
 
 -- src/lib.rt:90:13
@@ -51,7 +50,7 @@ coupled_internal-turns-requires t c =
     let t' = table_in a.state.now in
     let mid = c.unpark.new.mem in
     let next = c.empty.new.mem in
-    let m = subst (λ (r : Answer). Does r (Step.unpark t' a.services.now (Step.external t' a.services.now a.depth a.clock) a.row (parked_in (begin_of t' a.row) a.mem.now a.row)) t' a.mem.now mid) c.in-Done.is c.unpark.ensures.does in
+    let m = subst (λ (r : Result ⊤ Refusal). Does r (Step.unpark t' a.services.now (Step.external t' a.services.now a.depth a.clock) a.row (parked_in (begin_of t' a.row) a.mem.now a.row)) t' a.mem.now mid) c.in-Ok.is c.unpark.ensures.does in
     let i = c.requires.0.in_table in
     let ready = empty-ready t' a.row i c.requires.1 mid next m.ready (own_at t' a.row i mid next m.ready c.empty.ensures.owns) (emptied-at t' a.row i mid next m.ready c.empty.ensures.emptied) c.empty.ensures.place in
     let long : length next ≡ length a.mem.now = c.empty.auto.mem ∙ c.unpark.auto.mem in (
@@ -66,33 +65,33 @@ coupled_internal-turns-requires t c =
     )
 
 -- src/lib.rt:73:1
-pub coupled_internal-shape_of-mem-in-Refused : goal.coupled_internal-shape_of-mem-in-Refused
-coupled_internal-shape_of-mem-in-Refused t c =
+pub coupled_internal-shape_of-mem-in-Err : goal.coupled_internal-shape_of-mem-in-Err
+coupled_internal-shape_of-mem-in-Err t c =
     c.unpark.auto.mem
 
 -- src/lib.rt:73:1
-pub coupled_internal-returns-in-Refused : goal.coupled_internal-returns-in-Refused
-coupled_internal-returns-in-Refused t c =
+pub coupled_internal-returns-in-Err : goal.coupled_internal-returns-in-Err
+coupled_internal-returns-in-Err t c =
     let a = c.args in
     let t' = table_in a.state.now in
     let mid = c.unpark.new.mem in
-    let s = subst (λ (r : Answer). Does r (Step.unpark t' a.services.now (Step.external t' a.services.now a.depth a.clock) a.row (parked_in (begin_of t' a.row) a.mem.now a.row)) t' a.mem.now mid) c.in-Refused.is c.unpark.ensures.does in
-    record { gives = unpark-stops t' a.services.now a.depth a.clock a.row c.requires.0.in_table c.requires.1 a.mem.now c.in-Refused.refusal s; frame = frame-none t' a.at (length a.mem.now) a.mem.now mid c.unpark.ensures.frame }
+    let s = subst (λ (r : Result ⊤ Refusal). Does r (Step.unpark t' a.services.now (Step.external t' a.services.now a.depth a.clock) a.row (parked_in (begin_of t' a.row) a.mem.now a.row)) t' a.mem.now mid) c.in-Err.is c.unpark.ensures.does in
+    record { gives = unpark-stops t' a.services.now a.depth a.clock a.row c.requires.0.in_table c.requires.1 a.mem.now c.in-Err.refusal s; frame = frame-none t' a.at (length a.mem.now) a.mem.now mid c.unpark.ensures.frame }
 
 -- src/lib.rt:73:1
-pub coupled_internal-shape_of-mem-in-Done : goal.coupled_internal-shape_of-mem-in-Done
-coupled_internal-shape_of-mem-in-Done t c =
+pub coupled_internal-shape_of-mem-in-Ok : goal.coupled_internal-shape_of-mem-in-Ok
+coupled_internal-shape_of-mem-in-Ok t c =
     c.turns.auto.mem ∙ c.empty.auto.mem ∙ c.unpark.auto.mem
 
 -- src/lib.rt:73:1
-pub coupled_internal-returns-in-Done : goal.coupled_internal-returns-in-Done
-coupled_internal-returns-in-Done t c =
+pub coupled_internal-returns-in-Ok : goal.coupled_internal-returns-in-Ok
+coupled_internal-returns-in-Ok t c =
     let a = c.args in
     let t' = table_in a.state.now in
     let mid = c.unpark.new.mem in
     let next = c.empty.new.mem in
     let after = c.turns.new.mem in
-    let m = subst (λ (r : Answer). Does r (Step.unpark t' a.services.now (Step.external t' a.services.now a.depth a.clock) a.row (parked_in (begin_of t' a.row) a.mem.now a.row)) t' a.mem.now mid) c.in-Done.is c.unpark.ensures.does in
+    let m = subst (λ (r : Result ⊤ Refusal). Does r (Step.unpark t' a.services.now (Step.external t' a.services.now a.depth a.clock) a.row (parked_in (begin_of t' a.row) a.mem.now a.row)) t' a.mem.now mid) c.in-Ok.is c.unpark.ensures.does in
     let i = c.requires.0.in_table in
     let own = own_at t' a.row i mid next m.ready c.empty.ensures.owns in
     let empty = emptied-at t' a.row i mid next m.ready c.empty.ensures.emptied in
@@ -175,8 +174,8 @@ turn-internal-requires t c =
     (search rules, (record { scene = c.requires.0.scene; in_table = c.requires.2 }, c.requires.3, (let z = c.requires.4 in omega arith), c.requires.5))
 
 -- src/lib.rt:150:59
-pub turn-overflow_add-at-in-Out : goal.turn-overflow_add-at-in-Out
-turn-overflow_add-at-in-Out t c =
+pub turn-overflow_add-at-in-Ok : goal.turn-overflow_add-at-in-Ok
+turn-overflow_add-at-in-Ok t c =
     let d = deep-some (table_in c.args.state.now) c.args.depth c.args.component c.requires.3 in
     omega (arith, d, c.requires.5, c.well_formed)
 
@@ -186,39 +185,39 @@ turn-hand_all-requires t c =
     let a = c.args in
     let t' = table_in a.state.now in
     let mid = c.internal.new.mem in
-    let p = subst (λ (r : Put). Gives r (a.at + 256) (Step.internal t' a.services.now a.depth a.clock a.component) t' a.mem.now mid) c.in-Out.is c.internal.ensures.gives in
+    let p = subst (λ (r : Result ℕ Refusal). Gives r (a.at + 256) (Step.internal t' a.services.now a.depth a.clock a.component) t' a.mem.now mid) c.in-Ok.is c.internal.ensures.gives in
     let d = deep-some t' a.depth a.component c.requires.3 in
     let long = c.internal.auto.mem in
     (c.requires.0.scene.inside, p.ready, c.requires.0.in_table, c.requires.1, c.requires.4, (omega arith), (let r = c.requires.5 in omega (arith, d, long, r)), p.few, c.requires.6)
 
 -- src/lib.rt:129:1
-pub turn-shape_of-mem-in-Refused : goal.turn-shape_of-mem-in-Refused
-turn-shape_of-mem-in-Refused t c =
+pub turn-shape_of-mem-in-Err : goal.turn-shape_of-mem-in-Err
+turn-shape_of-mem-in-Err t c =
     c.internal.auto.mem
 
 -- src/lib.rt:129:1
-pub turn-returns-in-Refused : goal.turn-returns-in-Refused
-turn-returns-in-Refused t c =
+pub turn-returns-in-Err : goal.turn-returns-in-Err
+turn-returns-in-Err t c =
     let a = c.args in
     let t' = table_in a.state.now in
     let mid = c.internal.new.mem in
-    let s = subst (λ (r : Put). Gives r (a.at + 256) (Step.internal t' a.services.now a.depth a.clock a.component) t' a.mem.now mid) c.in-Refused.is c.internal.ensures.gives in
-    record { hands = turn-stops t' a.services.now a.depth a.clock a.row a.component a.at a.count a.mem.now (sym c.is_due.ensures ∙ c.if-not-is_due.false) c.in-Refused.refusal s; frame = frame-wider t' (a.at + 256) (length a.mem.now) a.at (length a.mem.now) a.mem.now mid (omega arith) (omega arith) c.internal.ensures.frame }
+    let s = subst (λ (r : Result ℕ Refusal). Gives r (a.at + 256) (Step.internal t' a.services.now a.depth a.clock a.component) t' a.mem.now mid) c.in-Err.is c.internal.ensures.gives in
+    record { hands = turn-stops t' a.services.now a.depth a.clock a.row a.component a.at a.count a.mem.now (sym c.is_due.ensures ∙ c.if-not-is_due.false) c.in-Err.refusal s; frame = frame-wider t' (a.at + 256) (length a.mem.now) a.at (length a.mem.now) a.mem.now mid (omega arith) (omega arith) c.internal.ensures.frame }
 
 -- src/lib.rt:129:1
-pub turn-shape_of-mem-in-Out : goal.turn-shape_of-mem-in-Out
-turn-shape_of-mem-in-Out t c =
+pub turn-shape_of-mem-in-Ok : goal.turn-shape_of-mem-in-Ok
+turn-shape_of-mem-in-Ok t c =
     c.hand_all.auto.mem ∙ c.internal.auto.mem
 
 -- src/lib.rt:129:1
-pub turn-returns-in-Out : goal.turn-returns-in-Out
-turn-returns-in-Out t c =
+pub turn-returns-in-Ok : goal.turn-returns-in-Ok
+turn-returns-in-Ok t c =
     let a = c.args in
     let t' = table_in a.state.now in
     let mid = c.internal.new.mem in
     let after = c.hand_all.new.mem in
-    let n = c.in-Out.messages in
-    let p = subst (λ (r : Put). Gives r (a.at + 256) (Step.internal t' a.services.now a.depth a.clock a.component) t' a.mem.now mid) c.in-Out.is c.internal.ensures.gives in
+    let n = c.in-Ok.messages in
+    let p = subst (λ (r : Result ℕ Refusal). Gives r (a.at + 256) (Step.internal t' a.services.now a.depth a.clock a.component) t' a.mem.now mid) c.in-Ok.is c.internal.ensures.gives in
     let len = length a.mem.now in
     let room : a.at + 256 ≤ len = (let d = deep-some t' a.depth a.component c.requires.3 in let r = c.requires.5 in omega arith) in
     let kept = outs-kept t' (a.at + 256) len a.at a.count a.mem.now mid c.requires.4 (let f = c.requires.6 in omega arith) c.internal.ensures.frame in
@@ -255,20 +254,20 @@ turns-next_component-requires t c =
     c.requires.0.scene.inside
 
 -- src/lib.rt:115:31
-pub turns-shape_of-mem-in-Nothing : goal.turns-shape_of-mem-in-Nothing
-turns-shape_of-mem-in-Nothing t c =
+pub turns-shape_of-mem-in-None : goal.turns-shape_of-mem-in-None
+turns-shape_of-mem-in-None t c =
     c.loop-from.invariant.2
 
 -- src/lib.rt:115:31
-pub turns-returns-in-Nothing : goal.turns-returns-in-Nothing
-turns-returns-in-Nothing t c =
+pub turns-returns-in-None : goal.turns-returns-in-None
+turns-returns-in-None t c =
     let a = c.args in
     let t' = table_in a.state.now in
     let visit = Step.turn t' a.services.now a.depth (Step.internal t' a.services.now a.depth a.clock) a.row in
     let g = c.loop-from.invariant.3 in
-    let found = found-next t' c.id_of-owner.result c.row_count-end.result c.loop-from.invariant.1 c.loop-from.from _ _ c.next_component.ensures c.in-Nothing.is in
+    let found = found-next t' c.id_of-owner.result c.row_count-end.result c.loop-from.invariant.1 c.loop-from.from _ _ c.next_component.ensures c.in-None.is in
     let m = adding-none t' (outs_in a.at) most_out visit (is_one t' c.id_of-owner.result) a.at (length a.mem.now) a.mem.now 0 c.row_count-end.result c.loop-from.from c.loop-from.mem c.loop-from.count g found in
-    record { hands = hands-all t' visit _ _ (components-all t' c.id_of-owner.result c.row_count-end.result a.row c.loop-from.invariant.0 c.loop-from.invariant.1) (Out c.loop-from.count) 0 a.at a.mem.now c.loop-from.mem m; frame = g.frame }
+    record { hands = hands-all t' visit _ _ (components-all t' c.id_of-owner.result c.row_count-end.result a.row c.loop-from.invariant.0 c.loop-from.invariant.1) (Ok c.loop-from.count) 0 a.at a.mem.now c.loop-from.mem m; frame = g.frame }
 
 -- src/lib.rt:117:23
 pub turns-turn-requires : goal.turns-turn-requires
@@ -276,16 +275,16 @@ turns-turn-requires t c =
     let a = c.args in
     let t' = table_in a.state.now in
     let g = c.loop-from.invariant.3 in
-    let found = found-next t' c.id_of-owner.result c.row_count-end.result c.loop-from.invariant.1 c.loop-from.from _ _ c.next_component.ensures c.in-At.is in
-    let bounds = sweep-bounds {S = ℕ} (λ k s. done s) (is_one t' c.id_of-owner.result) c.loop-from.from c.row_count-end.result 0 c.in-At.component found in
-    let below : c.in-At.component < length t'.rows = (let b = bounds.1 in let e = c.loop-from.invariant.1 in omega arith) in
-    let one = subst T (ap (λ (o : ℕ). is_one t' o c.in-At.component) c.loop-from.invariant.0) (subst T (sym bounds.2) tt) in (
+    let found = found-next t' c.id_of-owner.result c.row_count-end.result c.loop-from.invariant.1 c.loop-from.from _ _ c.next_component.ensures c.in-Some.is in
+    let bounds = sweep-bounds {S = ℕ} (λ k s. done s) (is_one t' c.id_of-owner.result) c.loop-from.from c.row_count-end.result 0 c.in-Some.component found in
+    let below : c.in-Some.component < length t'.rows = (let b = bounds.1 in let e = c.loop-from.invariant.1 in omega arith) in
+    let one = subst T (ap (λ (o : ℕ). is_one t' o c.in-Some.component) c.loop-from.invariant.0) (subst T (sym bounds.2) tt) in (
       search rules,
       (
         record { scene = record { inside = c.requires.0.scene.inside; ready = g.ready; time = c.requires.0.scene.time }; in_table = c.requires.0.in_table },
         c.requires.1,
         below,
-        in-components a.state.now c.requires.0.scene.inside (id_at t' a.row) c.in-At.component below one (Deep t' a.depth) c.requires.2,
+        in-components a.state.now c.requires.0.scene.inside (id_at t' a.row) c.in-Some.component below one (Deep t' a.depth) c.requires.2,
         c.requires.3,
         rw c.loop-from.invariant.2 c.requires.4,
         g.few,
@@ -293,30 +292,30 @@ turns-turn-requires t c =
     )
 
 -- src/lib.rt:119:46
-pub turns-shape_of-mem-in-Refused : goal.turns-shape_of-mem-in-Refused
-turns-shape_of-mem-in-Refused t c =
+pub turns-shape_of-mem-in-Err : goal.turns-shape_of-mem-in-Err
+turns-shape_of-mem-in-Err t c =
     c.turn.auto.mem ∙ c.loop-from.invariant.2
 
 -- src/lib.rt:119:46
-pub turns-returns-in-Refused : goal.turns-returns-in-Refused
-turns-returns-in-Refused t c =
+pub turns-returns-in-Err : goal.turns-returns-in-Err
+turns-returns-in-Err t c =
     let a = c.args in
     let t' = table_in a.state.now in
     let visit = Step.turn t' a.services.now a.depth (Step.internal t' a.services.now a.depth a.clock) a.row in
     let g = c.loop-from.invariant.3 in
     let after = c.turn.new.mem in
-    let found = found-next t' c.id_of-owner.result c.row_count-end.result c.loop-from.invariant.1 c.loop-from.from _ _ c.next_component.ensures c.in-At.is in
-    let d = subst (λ (r : Put). Hands r c.loop-from.count a.at (visit c.in-At.component) t' c.loop-from.mem after) c.in-Refused.is c.turn.ensures.hands in
-    let s = adding-stops t' (outs_in a.at) most_out visit (is_one t' c.id_of-owner.result) a.at (length a.mem.now) a.mem.now 0 c.row_count-end.result c.loop-from.from c.loop-from.mem c.loop-from.count g c.in-At.component c.in-Refused.refusal after found d in
-    record { hands = hands-all t' visit _ _ (components-all t' c.id_of-owner.result c.row_count-end.result a.row c.loop-from.invariant.0 c.loop-from.invariant.1) (Refused c.in-Refused.refusal) 0 a.at a.mem.now after s; frame = frame_then t' a.at (length a.mem.now) a.mem.now c.loop-from.mem after g.frame (frame-to t' a.at (length c.loop-from.mem) (length a.mem.now) c.loop-from.mem after c.loop-from.invariant.2 c.turn.ensures.frame) }
+    let found = found-next t' c.id_of-owner.result c.row_count-end.result c.loop-from.invariant.1 c.loop-from.from _ _ c.next_component.ensures c.in-Some.is in
+    let d = subst (λ (r : Result ℕ Refusal). Hands r c.loop-from.count a.at (visit c.in-Some.component) t' c.loop-from.mem after) c.in-Err.is c.turn.ensures.hands in
+    let s = adding-stops t' (outs_in a.at) most_out visit (is_one t' c.id_of-owner.result) a.at (length a.mem.now) a.mem.now 0 c.row_count-end.result c.loop-from.from c.loop-from.mem c.loop-from.count g c.in-Some.component c.in-Err.refusal after found d in
+    record { hands = hands-all t' visit _ _ (components-all t' c.id_of-owner.result c.row_count-end.result a.row c.loop-from.invariant.0 c.loop-from.invariant.1) (Err c.in-Err.refusal) 0 a.at a.mem.now after s; frame = frame_then t' a.at (length a.mem.now) a.mem.now c.loop-from.mem after g.frame (frame-to t' a.at (length c.loop-from.mem) (length a.mem.now) c.loop-from.mem after c.loop-from.invariant.2 c.turn.ensures.frame) }
 
 -- src/lib.rt:121:24
 pub turns-overflow_add-from : goal.turns-overflow_add-from
 turns-overflow_add-from t c =
     let a = c.args in
     let t' = table_in a.state.now in
-    let found = found-next t' c.id_of-owner.result c.row_count-end.result c.loop-from.invariant.1 c.loop-from.from _ _ c.next_component.ensures c.in-At.is in
-    let bounds = sweep-bounds {S = ℕ} (λ k s. done s) (is_one t' c.id_of-owner.result) c.loop-from.from c.row_count-end.result 0 c.in-At.component found in
+    let found = found-next t' c.id_of-owner.result c.row_count-end.result c.loop-from.invariant.1 c.loop-from.from _ _ c.next_component.ensures c.in-Some.is in
+    let bounds = sweep-bounds {S = ℕ} (λ k s. done s) (is_one t' c.id_of-owner.result) c.loop-from.from c.row_count-end.result 0 c.in-Some.component found in
     let few = sizes-in a.state.now c.requires.0.scene.inside in
     omega (arith, bounds.1, c.loop-from.invariant.1, few.0)
 
@@ -325,8 +324,8 @@ pub turns-loop-from-smaller : goal.turns-loop-from-smaller
 turns-loop-from-smaller t c =
     let a = c.args in
     let t' = table_in a.state.now in
-    let found = found-next t' c.id_of-owner.result c.row_count-end.result c.loop-from.invariant.1 c.loop-from.from _ _ c.next_component.ensures c.in-At.is in
-    let bounds = sweep-bounds {S = ℕ} (λ k s. done s) (is_one t' c.id_of-owner.result) c.loop-from.from c.row_count-end.result 0 c.in-At.component found in
+    let found = found-next t' c.id_of-owner.result c.row_count-end.result c.loop-from.invariant.1 c.loop-from.from _ _ c.next_component.ensures c.in-Some.is in
+    let bounds = sweep-bounds {S = ℕ} (λ k s. done s) (is_one t' c.id_of-owner.result) c.loop-from.from c.row_count-end.result 0 c.in-Some.component found in
     omega (arith, bounds.0, bounds.1)
 
 -- src/lib.rt:113:5
@@ -337,12 +336,12 @@ turns-loop-from-preserved t c =
     let visit = Step.turn t' a.services.now a.depth (Step.internal t' a.services.now a.depth a.clock) a.row in
     let g = c.loop-from.invariant.3 in
     let after = c.turn.new.mem in
-    let found = found-next t' c.id_of-owner.result c.row_count-end.result c.loop-from.invariant.1 c.loop-from.from _ _ c.next_component.ensures c.in-At.is in
-    let m = subst (λ (r : Put). Hands r c.loop-from.count a.at (visit c.in-At.component) t' c.loop-from.mem after) c.in-Out.is c.turn.ensures.hands in (
+    let found = found-next t' c.id_of-owner.result c.row_count-end.result c.loop-from.invariant.1 c.loop-from.from _ _ c.next_component.ensures c.in-Some.is in
+    let m = subst (λ (r : Result ℕ Refusal). Hands r c.loop-from.count a.at (visit c.in-Some.component) t' c.loop-from.mem after) c.in-Ok.is c.turn.ensures.hands in (
       c.loop-from.invariant.0,
       c.loop-from.invariant.1,
       c.turn.auto.mem ∙ c.loop-from.invariant.2,
-      adding-on t' (outs_in a.at) most_out visit (is_one t' c.id_of-owner.result) a.at (length a.mem.now) a.mem.now 0 c.row_count-end.result c.loop-from.from c.loop-from.mem c.loop-from.count g c.in-At.component c.in-Out.messages after found m (frame-to t' a.at (length c.loop-from.mem) (length a.mem.now) c.loop-from.mem after c.loop-from.invariant.2 c.turn.ensures.frame),
+      adding-on t' (outs_in a.at) most_out visit (is_one t' c.id_of-owner.result) a.at (length a.mem.now) a.mem.now 0 c.row_count-end.result c.loop-from.from c.loop-from.mem c.loop-from.count g c.in-Some.component c.in-Ok.messages after found m (frame-to t' a.at (length c.loop-from.mem) (length a.mem.now) c.loop-from.mem after c.loop-from.invariant.2 c.turn.ensures.frame),
     )
 
 -- src/lib.rt:96:1
@@ -358,4 +357,4 @@ turns-returns t c =
     let visit = Step.turn t' a.services.now a.depth (Step.internal t' a.services.now a.depth a.clock) a.row in
     let g = c.loop-from.invariant.3 in
     let m = adding-end t' (outs_in a.at) most_out visit (is_one t' c.id_of-owner.result) a.at (length a.mem.now) a.mem.now 0 c.row_count-end.result c.loop-from.from c.loop-from.mem c.loop-from.count g c.loop-from-test.false in
-    record { hands = hands-all t' visit _ _ (components-all t' c.id_of-owner.result c.row_count-end.result a.row c.loop-from.invariant.0 c.loop-from.invariant.1) (Out c.loop-from.count) 0 a.at a.mem.now c.loop-from.mem m; frame = g.frame }
+    record { hands = hands-all t' visit _ _ (components-all t' c.id_of-owner.result c.row_count-end.result a.row c.loop-from.invariant.0 c.loop-from.invariant.1) (Ok c.loop-from.count) 0 a.at a.mem.now c.loop-from.mem m; frame = g.frame }

@@ -1,4 +1,6 @@
 -- `internal_events::atom_internal` meets its contract: each kind's event in place is the rules' event. Assumes nothing.
+use Rattle.std.specs.Prelude.{Result}
+use Rattle.rules.specs.declared.Refusal.{Refusal}
 use Prim.Native.Nat.{ℕ, suc, ◌+◌, ◌≤◌, ◌^◌}
 use mathlib.Core.Path.{◌≡◌, refl, sym, ap, ◌∙◌}
 use mathlib.Core.Logic.{inl}
@@ -11,7 +13,6 @@ use Rattle.rules.specs.Sizes.{is_word}
 use Rattle.rules.specs.Table as Table
 use Rattle.rules.specs.Table.{kind_at, is_coupled}
 use Rattle.rules.specs.Step as Step
-use Rattle.memory.specs.declared.Put.{Put}
 use Rattle.memory.specs.Words.{begin_in, place_in, width_of, Own}
 use Rattle.memory.specs.View.{state_in}
 use Rattle.memory.specs.Atoms.{atom_internal, Gave}
@@ -83,7 +84,7 @@ shape_of-mem-in-Processor c = search rules
 -- src/lib.rt:57:1
 pub returns-in-Processor : goal.returns-in-Processor
 returns-in-Processor c =
-    let given : (after : List ℕ) (r : Put) (k : Table.Kind) → kind_at (table_in c.args.state.now) c.args.row ≡ k → is_coupled k ≡ false → Own c.args.row (begin_in c.args.mem.now c.args.row) (width_of k) c.args.at (c.args.at + 64) c.args.mem.now after → Gave r c.args.at k (begin_in c.args.mem.now c.args.row) c.args.row after (atom_internal k c.args.services.now (state_in k (begin_in c.args.mem.now c.args.row) c.args.mem.now c.args.row) (place_in c.args.mem.now)) → ((depth : ℕ) → Gives r c.args.at (Step.internal (table_in c.args.state.now) c.args.services.now (suc depth) c.args.clock c.args.row) (table_in c.args.state.now) c.args.mem.now after) × Frame (table_in c.args.state.now) c.args.at (length c.args.mem.now) c.args.mem.now after = λ after r k e atom own gave. let a = c.args in let s = c.requires.0.scene in let t = table_in a.state.now in let short : T (is_word (length a.services.now)) = lt→ltb (length a.services.now) (2 ^ 64) c.well_formed.1.0.0 in (λ depth. gives-kind t (fine-in a.state.now s.inside) a.services.now short a.clock s.time depth a.row c.requires.0.in_table a.mem.now after s.ready a.at c.requires.2 k e atom (begin_in a.mem.now a.row) refl own r gave, frame-wider t a.at (a.at + 64) a.at (length a.mem.now) a.mem.now after (omega arith) (let z = c.requires.3 in omega arith) (frame-kind t a.mem.now after a.row a.at (a.at + 64) c.requires.0.in_table s.ready.laid (λ p l. inl (let z = c.requires.2 in omega arith)) k e (begin_in a.mem.now a.row) refl own)) in
+    let given : (after : List ℕ) (r : Result ℕ Refusal) (k : Table.Kind) → kind_at (table_in c.args.state.now) c.args.row ≡ k → is_coupled k ≡ false → Own c.args.row (begin_in c.args.mem.now c.args.row) (width_of k) c.args.at (c.args.at + 64) c.args.mem.now after → Gave r c.args.at k (begin_in c.args.mem.now c.args.row) c.args.row after (atom_internal k c.args.services.now (state_in k (begin_in c.args.mem.now c.args.row) c.args.mem.now c.args.row) (place_in c.args.mem.now)) → ((depth : ℕ) → Gives r c.args.at (Step.internal (table_in c.args.state.now) c.args.services.now (suc depth) c.args.clock c.args.row) (table_in c.args.state.now) c.args.mem.now after) × Frame (table_in c.args.state.now) c.args.at (length c.args.mem.now) c.args.mem.now after = λ after r k e atom own gave. let a = c.args in let s = c.requires.0.scene in let t = table_in a.state.now in let short : T (is_word (length a.services.now)) = lt→ltb (length a.services.now) (2 ^ 64) c.well_formed.1.0.0 in (λ depth. gives-kind t (fine-in a.state.now s.inside) a.services.now short a.clock s.time depth a.row c.requires.0.in_table a.mem.now after s.ready a.at c.requires.2 k e atom (begin_in a.mem.now a.row) refl own r gave, frame-wider t a.at (a.at + 64) a.at (length a.mem.now) a.mem.now after (omega arith) (let z = c.requires.3 in omega arith) (frame-kind t a.mem.now after a.row a.at (a.at + 64) c.requires.0.in_table s.ready.laid (λ p l. inl (let z = c.requires.2 in omega arith)) k e (begin_in a.mem.now a.row) refl own)) in
     let a = c.args in
     let e = is-processor (kind_at (table_in a.state.now) a.row) c.in-Processor.model (sym c.kind_of.ensures ∙ c.in-Processor.is) in
     let all = given c.processor_internal.new.mem c.processor_internal.result (Table.processor c.in-Processor.model) e refl c.processor_internal.ensures.owns c.processor_internal.ensures.gives in record { gives = all.0; frame = all.1 }
@@ -95,7 +96,7 @@ shape_of-mem-in-Batcher c = search rules
 -- src/lib.rt:57:1
 pub returns-in-Batcher : goal.returns-in-Batcher
 returns-in-Batcher c =
-    let given : (after : List ℕ) (r : Put) (k : Table.Kind) → kind_at (table_in c.args.state.now) c.args.row ≡ k → is_coupled k ≡ false → Own c.args.row (begin_in c.args.mem.now c.args.row) (width_of k) c.args.at (c.args.at + 64) c.args.mem.now after → Gave r c.args.at k (begin_in c.args.mem.now c.args.row) c.args.row after (atom_internal k c.args.services.now (state_in k (begin_in c.args.mem.now c.args.row) c.args.mem.now c.args.row) (place_in c.args.mem.now)) → ((depth : ℕ) → Gives r c.args.at (Step.internal (table_in c.args.state.now) c.args.services.now (suc depth) c.args.clock c.args.row) (table_in c.args.state.now) c.args.mem.now after) × Frame (table_in c.args.state.now) c.args.at (length c.args.mem.now) c.args.mem.now after = λ after r k e atom own gave. let a = c.args in let s = c.requires.0.scene in let t = table_in a.state.now in let short : T (is_word (length a.services.now)) = lt→ltb (length a.services.now) (2 ^ 64) c.well_formed.1.0.0 in (λ depth. gives-kind t (fine-in a.state.now s.inside) a.services.now short a.clock s.time depth a.row c.requires.0.in_table a.mem.now after s.ready a.at c.requires.2 k e atom (begin_in a.mem.now a.row) refl own r gave, frame-wider t a.at (a.at + 64) a.at (length a.mem.now) a.mem.now after (omega arith) (let z = c.requires.3 in omega arith) (frame-kind t a.mem.now after a.row a.at (a.at + 64) c.requires.0.in_table s.ready.laid (λ p l. inl (let z = c.requires.2 in omega arith)) k e (begin_in a.mem.now a.row) refl own)) in
+    let given : (after : List ℕ) (r : Result ℕ Refusal) (k : Table.Kind) → kind_at (table_in c.args.state.now) c.args.row ≡ k → is_coupled k ≡ false → Own c.args.row (begin_in c.args.mem.now c.args.row) (width_of k) c.args.at (c.args.at + 64) c.args.mem.now after → Gave r c.args.at k (begin_in c.args.mem.now c.args.row) c.args.row after (atom_internal k c.args.services.now (state_in k (begin_in c.args.mem.now c.args.row) c.args.mem.now c.args.row) (place_in c.args.mem.now)) → ((depth : ℕ) → Gives r c.args.at (Step.internal (table_in c.args.state.now) c.args.services.now (suc depth) c.args.clock c.args.row) (table_in c.args.state.now) c.args.mem.now after) × Frame (table_in c.args.state.now) c.args.at (length c.args.mem.now) c.args.mem.now after = λ after r k e atom own gave. let a = c.args in let s = c.requires.0.scene in let t = table_in a.state.now in let short : T (is_word (length a.services.now)) = lt→ltb (length a.services.now) (2 ^ 64) c.well_formed.1.0.0 in (λ depth. gives-kind t (fine-in a.state.now s.inside) a.services.now short a.clock s.time depth a.row c.requires.0.in_table a.mem.now after s.ready a.at c.requires.2 k e atom (begin_in a.mem.now a.row) refl own r gave, frame-wider t a.at (a.at + 64) a.at (length a.mem.now) a.mem.now after (omega arith) (let z = c.requires.3 in omega arith) (frame-kind t a.mem.now after a.row a.at (a.at + 64) c.requires.0.in_table s.ready.laid (λ p l. inl (let z = c.requires.2 in omega arith)) k e (begin_in a.mem.now a.row) refl own)) in
     let a = c.args in
     let e = is-batcher (kind_at (table_in a.state.now) a.row) c.in-Batcher.model (sym c.kind_of.ensures ∙ c.in-Batcher.is) in
     let all = given c.batcher_internal.new.mem c.batcher_internal.result (Table.batcher c.in-Batcher.model) e refl c.batcher_internal.ensures.owns (c.batcher_internal.ensures.gives a.services.now) in record { gives = all.0; frame = all.1 }
@@ -107,7 +108,7 @@ shape_of-mem-in-Stopwatch c = search rules
 -- src/lib.rt:57:1
 pub returns-in-Stopwatch : goal.returns-in-Stopwatch
 returns-in-Stopwatch c =
-    let given : (after : List ℕ) (r : Put) (k : Table.Kind) → kind_at (table_in c.args.state.now) c.args.row ≡ k → is_coupled k ≡ false → Own c.args.row (begin_in c.args.mem.now c.args.row) (width_of k) c.args.at (c.args.at + 64) c.args.mem.now after → Gave r c.args.at k (begin_in c.args.mem.now c.args.row) c.args.row after (atom_internal k c.args.services.now (state_in k (begin_in c.args.mem.now c.args.row) c.args.mem.now c.args.row) (place_in c.args.mem.now)) → ((depth : ℕ) → Gives r c.args.at (Step.internal (table_in c.args.state.now) c.args.services.now (suc depth) c.args.clock c.args.row) (table_in c.args.state.now) c.args.mem.now after) × Frame (table_in c.args.state.now) c.args.at (length c.args.mem.now) c.args.mem.now after = λ after r k e atom own gave. let a = c.args in let s = c.requires.0.scene in let t = table_in a.state.now in let short : T (is_word (length a.services.now)) = lt→ltb (length a.services.now) (2 ^ 64) c.well_formed.1.0.0 in (λ depth. gives-kind t (fine-in a.state.now s.inside) a.services.now short a.clock s.time depth a.row c.requires.0.in_table a.mem.now after s.ready a.at c.requires.2 k e atom (begin_in a.mem.now a.row) refl own r gave, frame-wider t a.at (a.at + 64) a.at (length a.mem.now) a.mem.now after (omega arith) (let z = c.requires.3 in omega arith) (frame-kind t a.mem.now after a.row a.at (a.at + 64) c.requires.0.in_table s.ready.laid (λ p l. inl (let z = c.requires.2 in omega arith)) k e (begin_in a.mem.now a.row) refl own)) in
+    let given : (after : List ℕ) (r : Result ℕ Refusal) (k : Table.Kind) → kind_at (table_in c.args.state.now) c.args.row ≡ k → is_coupled k ≡ false → Own c.args.row (begin_in c.args.mem.now c.args.row) (width_of k) c.args.at (c.args.at + 64) c.args.mem.now after → Gave r c.args.at k (begin_in c.args.mem.now c.args.row) c.args.row after (atom_internal k c.args.services.now (state_in k (begin_in c.args.mem.now c.args.row) c.args.mem.now c.args.row) (place_in c.args.mem.now)) → ((depth : ℕ) → Gives r c.args.at (Step.internal (table_in c.args.state.now) c.args.services.now (suc depth) c.args.clock c.args.row) (table_in c.args.state.now) c.args.mem.now after) × Frame (table_in c.args.state.now) c.args.at (length c.args.mem.now) c.args.mem.now after = λ after r k e atom own gave. let a = c.args in let s = c.requires.0.scene in let t = table_in a.state.now in let short : T (is_word (length a.services.now)) = lt→ltb (length a.services.now) (2 ^ 64) c.well_formed.1.0.0 in (λ depth. gives-kind t (fine-in a.state.now s.inside) a.services.now short a.clock s.time depth a.row c.requires.0.in_table a.mem.now after s.ready a.at c.requires.2 k e atom (begin_in a.mem.now a.row) refl own r gave, frame-wider t a.at (a.at + 64) a.at (length a.mem.now) a.mem.now after (omega arith) (let z = c.requires.3 in omega arith) (frame-kind t a.mem.now after a.row a.at (a.at + 64) c.requires.0.in_table s.ready.laid (λ p l. inl (let z = c.requires.2 in omega arith)) k e (begin_in a.mem.now a.row) refl own)) in
     let a = c.args in
     let e = is-stopwatch (kind_at (table_in a.state.now) a.row) c.in-Stopwatch.model (sym c.kind_of.ensures ∙ c.in-Stopwatch.is) in
     let all = given c.stopwatch_internal.new.mem c.stopwatch_internal.result (Table.stopwatch c.in-Stopwatch.model) e refl c.stopwatch_internal.ensures.owns (c.stopwatch_internal.ensures.gives a.services.now) in record { gives = all.0; frame = all.1 }

@@ -10,4 +10,4 @@ returns-in_default c = rw (sym c.length_of-lasting.ensures ∙ c.in_default.is)
 pub returns : goal.returns
 unfolding added_at
 returns c =
-    rw (sym c.length_of-lasting.ensures ∙ c.in-Lasted.is)
+    rw (sym c.length_of-lasting.ensures ∙ c.in-Some.is)

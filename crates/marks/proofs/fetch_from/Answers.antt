@@ -10,14 +10,14 @@ use Rattle.marks.proofs.fetch_from.Goals as goal
 pub loop-k-init : goal.loop-k-init
 loop-k-init c = (search rules, begun (fetched_from c.args.metric c.args.words.now 0) c.args.held)
 
-pub returns-in-Lasted : goal.returns-in-Lasted
-returns-in-Lasted c =
+pub returns-in-Some : goal.returns-in-Some
+returns-in-Some c =
     let words = c.args.words.now in
     let metric = c.args.metric in
-    let first : Best = record { name = get_or words c.loop-k.k 0; length = c.in-Lasted.length } in
+    let first : Best = record { name = get_or words c.loop-k.k 0; length = c.in-Some.length } in
     ap Job c.best_from.ensures
     ∙ sym (turn (fetched_from metric words) (λ k n. Job (best_from metric words first k n)) c.loop-k.k c.args.held
-    (λ n. fetched-lasted metric words c.loop-k.k n c.in-Lasted.length (sym c.length_of-lasting.ensures ∙ c.in-Lasted.is)) c.loop-k-test.true)
+    (λ n. fetched-lasted metric words c.loop-k.k n c.in-Some.length (sym c.length_of-lasting.ensures ∙ c.in-Some.is)) c.loop-k-test.true)
     ∙ c.loop-k.invariant.1
 
 pub loop-k-preserved : goal.loop-k-preserved

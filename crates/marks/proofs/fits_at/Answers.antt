@@ -20,12 +20,12 @@ unfolding fit_at
 returns-then-not-is_mark-2 c =
     rw (content-low _ c.if-name-gt4294967295.false, sym c.is_mark.ensures ∙ c.if-not-is_mark.false, sym c.is_mark-2.ensures ∙ c.if-not-is_mark-2.true)
 
-pub returns-in-At : goal.returns-in-At
+pub returns-in-Some : goal.returns-in-Some
 unfolding fit_at
-returns-in-At c =
-    rw (content-low _ c.if-name-gt4294967295.false, sym c.is_mark.ensures ∙ c.if-not-is_mark.false, sym c.is_mark-2.ensures ∙ c.if-not-is_mark-2.false, sym c.find-again.ensures ∙ c.in-At.is)
+returns-in-Some c =
+    rw (content-low _ c.if-name-gt4294967295.false, sym c.is_mark.ensures ∙ c.if-not-is_mark.false, sym c.is_mark-2.ensures ∙ c.if-not-is_mark-2.false, sym c.find-again.ensures ∙ c.in-Some.is)
 
-pub returns-in-Nothing : goal.returns-in-Nothing
+pub returns-in-None : goal.returns-in-None
 unfolding fit_at
-returns-in-Nothing c =
-    rw (content-low _ c.if-name-gt4294967295.false, sym c.is_mark.ensures ∙ c.if-not-is_mark.false, sym c.is_mark-2.ensures ∙ c.if-not-is_mark-2.false, sym c.find-again.ensures ∙ c.in-Nothing.is)
+returns-in-None c =
+    rw (content-low _ c.if-name-gt4294967295.false, sym c.is_mark.ensures ∙ c.if-not-is_mark.false, sym c.is_mark-2.ensures ∙ c.if-not-is_mark-2.false, sym c.find-again.ensures ∙ c.in-None.is)

@@ -4,8 +4,8 @@ use Rattle.times.proofs.AnswerLaws.{no-timer-says}
 use Rattle.marks.specs.SweepLaws.{timer-fits}
 use Rattle.marks.proofs.is_mark.Goals as goal
 
-pub returns-in-Timer : goal.returns-in-Timer
-returns-in-Timer c = sym (timer-fits _ _ (sym c.timer_of_bits-timer.ensures ∙ c.in-Timer.is))
+pub returns-in-Some : goal.returns-in-Some
+returns-in-Some c = sym (timer-fits _ _ (sym c.timer_of_bits-timer.ensures ∙ c.in-Some.is))
 
-pub returns-in-NoTimer : goal.returns-in-NoTimer
-returns-in-NoTimer c = sym (no-timer-says _ (sym c.timer_of_bits-timer.ensures ∙ c.in-NoTimer.is))
+pub returns-in-None : goal.returns-in-None
+returns-in-None c = sym (no-timer-says _ (sym c.timer_of_bits-timer.ensures ∙ c.in-None.is))

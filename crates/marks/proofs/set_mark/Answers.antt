@@ -26,18 +26,18 @@ put_mark-requires c =
     let bounds : (c.args.held ≤ 64) × (192 ≤ length c.args.words.now) = let a = c.args in whole_says a.held a.words.now (is_whole) in
     let seen : c.find-found.result ≡ first_from (is_named_at c.args.words.now c.args.name) 0 c.args.held = let a = c.args in c.find-found.ensures ∙ begun (first_from (is_named_at a.words.now a.name) 0) a.held in
     let l = bounds in
-    let k = c.in-At.k in
-    let a = first-at _ 0 c.args.held k (sym (seen) ∙ c.in-At.is) in
+    let k = c.in-Some.k in
+    let a = first-at _ 0 c.args.held k (sym (seen) ∙ c.in-Some.is) in
     let h : k < 64 = omega (arith, l.0, a.1) in
     (h, l.1)
 
-pub returns-in-At : goal.returns-in-At
-returns-in-At c =
+pub returns-in-Some : goal.returns-in-Some
+returns-in-Some c =
     let is_whole : whole_in c.args.held c.args.words.now ≡ true = sym c.whole.ensures ∙ c.if-not-whole.false in
     let seen : c.find-found.result ≡ first_from (is_named_at c.args.words.now c.args.name) 0 c.args.held = let a = c.args in c.find-found.ensures ∙ begun (first_from (is_named_at a.words.now a.name) 0) a.held in
     let a = c.args in
     ap (λ l. (Held a.held, l)) c.put_mark.ensures
-    ∙ sym (marked-at a.mark a.held a.name a.clock a.words.now (is_whole) _ (sym (seen) ∙ c.in-At.is))
+    ∙ sym (marked-at a.mark a.held a.name a.clock a.words.now (is_whole) _ (sym (seen) ∙ c.in-Some.is))
 
 pub returns-then-held-eq64 : goal.returns-then-held-eq64
 returns-then-held-eq64 c =

@@ -1,4 +1,6 @@
 -- `model_events::external`, `to_components` and `to_target` meet their contracts. The loop: what is left of the couplings, from the words as they stand, is the whole from the words at first. Assumes nothing.
+use Rattle.std.specs.Prelude.{Err, Ok, Option, Result, tt, ⊤}
+use Rattle.rules.specs.declared.Refusal.{Refusal}
 use mathlib.Core.Path.{◌≡◌, refl, sym, ap, subst, ◌∙◌}
 use native.Mathlib.Omega.{arith}
 use lib.ListN.{length}
@@ -13,8 +15,6 @@ use Rattle.lookup.specs.InsideLaws.{sizes-in, coupling-fits}
 use Rattle.lookup.specs.Inside.{table_in, couplings_in}
 use Rattle.views.specs.World.{world_in, Does}
 use Rattle.views.proofs.Frames.{frame_same, frame_then}
-use Rattle.memory.specs.declared.Answer.{Answer}
-use Rattle.memory.specs.declared.Answer.TheVariants.{Done, Refused}
 use Rattle.sweeps.specs.Loops.{going_start, going_on, going-stops, going-none, going_end}
 use Rattle.model_events.specs.DueHere.{is-coupled-is}
 use Rattle.model_events.specs.External.{along_input, coupled-does, target_none, target_one}
@@ -23,7 +23,6 @@ use Rattle.model_events.specs.Along.{deeper, found-deep}
 use mathlib.Core.List.{[], ◌∷◌}
 use lib.Dec.{eqb}
 use Rattle.rules.specs.Base.{those}
-use Rattle.words.specs.declared.Found.{Found}
 use Rattle.selection.specs.Selected.{leads_to}
 use Rattle.lookup.specs.Inside.{found_in}
 use Prim.Native.Nat.{ℕ, suc, ◌-◌}
@@ -96,26 +95,26 @@ to_components-next_input-requires t c =
     c.requires.0.scene.inside
 
 -- src/lib.rt:119:31
-pub to_components-shape_of-mem-in-Nothing : goal.to_components-shape_of-mem-in-Nothing
-to_components-shape_of-mem-in-Nothing t c =
+pub to_components-shape_of-mem-in-None : goal.to_components-shape_of-mem-in-None
+to_components-shape_of-mem-in-None t c =
     c.loop-from.invariant.2
 
 -- src/lib.rt:119:31
-pub to_components-returns-in-Nothing : goal.to_components-returns-in-Nothing
-to_components-returns-in-Nothing t c =
+pub to_components-returns-in-None : goal.to_components-returns-in-None
+to_components-returns-in-None t c =
     let a = c.args in
     let g = c.loop-from.invariant.3 in
-    let found = found-to (is_input (couplings_in a.state.now) c.id_of-owner.result a.port) c.loop-from.from c.coupling_count-end.result (length (table_in a.state.now).couplings) _ _ c.loop-from.invariant.1 c.next_input.ensures c.in-Nothing.is in
+    let found = found-to (is_input (couplings_in a.state.now) c.id_of-owner.result a.port) c.loop-from.from c.coupling_count-end.result (length (table_in a.state.now).couplings) _ _ c.loop-from.invariant.1 c.next_input.ensures c.in-None.is in
     let m = going-none (table_in a.state.now) (along_input a.state.now a.services.now a.depth a.clock c.id_of-owner.result a.content) (is_input (couplings_in a.state.now) c.id_of-owner.result a.port) a.mem.now c.coupling_count-end.result c.loop-from.from c.loop-from.mem g found in
-    record { does = coupled-does a.state.now c.requires.0.scene.inside a.services.now a.depth a.clock a.mem.now c.loop-from.mem Done a.row a.port a.content c.id_of-owner.result c.coupling_count-end.result c.requires.1 c.loop-from.invariant.0 c.loop-from.invariant.1 m; frame = g.frame }
+    record { does = coupled-does a.state.now c.requires.0.scene.inside a.services.now a.depth a.clock a.mem.now c.loop-from.mem (Ok tt) a.row a.port a.content c.id_of-owner.result c.coupling_count-end.result c.requires.1 c.loop-from.invariant.0 c.loop-from.invariant.1 m; frame = g.frame }
 
 -- src/lib.rt:121:23
 pub to_components-to_target-requires : goal.to_components-to_target-requires
 to_components-to_target-requires t c =
     let a = c.args in
     let g = c.loop-from.invariant.3 in
-    let found = found-to (is_input (couplings_in a.state.now) c.id_of-owner.result a.port) c.loop-from.from c.coupling_count-end.result (length (table_in a.state.now).couplings) _ _ c.loop-from.invariant.1 c.next_input.ensures c.in-At.is in
-    let bounds = sweep-bounds {S = ℕ} (λ k s. done s) (is_input (couplings_in a.state.now) c.id_of-owner.result a.port) c.loop-from.from c.coupling_count-end.result 0 c.in-At.coupling found in (
+    let found = found-to (is_input (couplings_in a.state.now) c.id_of-owner.result a.port) c.loop-from.from c.coupling_count-end.result (length (table_in a.state.now).couplings) _ _ c.loop-from.invariant.1 c.next_input.ensures c.in-Some.is in
+    let bounds = sweep-bounds {S = ℕ} (λ k s. done s) (is_input (couplings_in a.state.now) c.id_of-owner.result a.port) c.loop-from.from c.coupling_count-end.result 0 c.in-Some.coupling found in (
       search rules,
       (
         record { inside = c.requires.0.scene.inside; ready = g.ready; time = c.requires.0.scene.time },
@@ -125,26 +124,26 @@ to_components-to_target-requires t c =
     )
 
 -- src/lib.rt:123:49
-pub to_components-shape_of-mem-in-Refused : goal.to_components-shape_of-mem-in-Refused
-to_components-shape_of-mem-in-Refused t c =
+pub to_components-shape_of-mem-in-Err : goal.to_components-shape_of-mem-in-Err
+to_components-shape_of-mem-in-Err t c =
     c.to_target.auto.mem ∙ c.loop-from.invariant.2
 
 -- src/lib.rt:123:49
-pub to_components-returns-in-Refused : goal.to_components-returns-in-Refused
-to_components-returns-in-Refused t c =
+pub to_components-returns-in-Err : goal.to_components-returns-in-Err
+to_components-returns-in-Err t c =
     let a = c.args in
     let g = c.loop-from.invariant.3 in
-    let found = found-to (is_input (couplings_in a.state.now) c.id_of-owner.result a.port) c.loop-from.from c.coupling_count-end.result (length (table_in a.state.now).couplings) _ _ c.loop-from.invariant.1 c.next_input.ensures c.in-At.is in
-    let d = subst (λ (r : Answer). Does r (along_input a.state.now a.services.now a.depth a.clock c.id_of-owner.result a.content c.in-At.coupling) (table_in a.state.now) c.loop-from.mem c.to_target.new.mem) c.in-Refused.is c.to_target.ensures.does in
-    let s = going-stops (table_in a.state.now) (along_input a.state.now a.services.now a.depth a.clock c.id_of-owner.result a.content) (is_input (couplings_in a.state.now) c.id_of-owner.result a.port) a.mem.now c.coupling_count-end.result c.loop-from.from c.loop-from.mem g c.in-At.coupling c.in-Refused.refusal c.to_target.new.mem found d in
-    record { does = coupled-does a.state.now c.requires.0.scene.inside a.services.now a.depth a.clock a.mem.now c.to_target.new.mem (Refused c.in-Refused.refusal) a.row a.port a.content c.id_of-owner.result c.coupling_count-end.result c.requires.1 c.loop-from.invariant.0 c.loop-from.invariant.1 s; frame = frame_then (table_in a.state.now) 0 0 a.mem.now c.loop-from.mem c.to_target.new.mem g.frame c.to_target.ensures.frame }
+    let found = found-to (is_input (couplings_in a.state.now) c.id_of-owner.result a.port) c.loop-from.from c.coupling_count-end.result (length (table_in a.state.now).couplings) _ _ c.loop-from.invariant.1 c.next_input.ensures c.in-Some.is in
+    let d = subst (λ (r : Result ⊤ Refusal). Does r (along_input a.state.now a.services.now a.depth a.clock c.id_of-owner.result a.content c.in-Some.coupling) (table_in a.state.now) c.loop-from.mem c.to_target.new.mem) c.in-Err.is c.to_target.ensures.does in
+    let s = going-stops (table_in a.state.now) (along_input a.state.now a.services.now a.depth a.clock c.id_of-owner.result a.content) (is_input (couplings_in a.state.now) c.id_of-owner.result a.port) a.mem.now c.coupling_count-end.result c.loop-from.from c.loop-from.mem g c.in-Some.coupling c.in-Err.refusal c.to_target.new.mem found d in
+    record { does = coupled-does a.state.now c.requires.0.scene.inside a.services.now a.depth a.clock a.mem.now c.to_target.new.mem (Err c.in-Err.refusal) a.row a.port a.content c.id_of-owner.result c.coupling_count-end.result c.requires.1 c.loop-from.invariant.0 c.loop-from.invariant.1 s; frame = frame_then (table_in a.state.now) 0 0 a.mem.now c.loop-from.mem c.to_target.new.mem g.frame c.to_target.ensures.frame }
 
 -- src/lib.rt:125:24
 pub to_components-overflow_add-from : goal.to_components-overflow_add-from
 to_components-overflow_add-from t c =
     let a = c.args in
-    let found = found-to (is_input (couplings_in a.state.now) c.id_of-owner.result a.port) c.loop-from.from c.coupling_count-end.result (length (table_in a.state.now).couplings) _ _ c.loop-from.invariant.1 c.next_input.ensures c.in-At.is in
-    let bounds = sweep-bounds {S = ℕ} (λ k s. done s) (is_input (couplings_in a.state.now) c.id_of-owner.result a.port) c.loop-from.from c.coupling_count-end.result 0 c.in-At.coupling found in
+    let found = found-to (is_input (couplings_in a.state.now) c.id_of-owner.result a.port) c.loop-from.from c.coupling_count-end.result (length (table_in a.state.now).couplings) _ _ c.loop-from.invariant.1 c.next_input.ensures c.in-Some.is in
+    let bounds = sweep-bounds {S = ℕ} (λ k s. done s) (is_input (couplings_in a.state.now) c.id_of-owner.result a.port) c.loop-from.from c.coupling_count-end.result 0 c.in-Some.coupling found in
     let few = sizes-in a.state.now c.requires.0.scene.inside in
     omega (arith, bounds.1, c.loop-from.invariant.1, few.2)
 
@@ -152,8 +151,8 @@ to_components-overflow_add-from t c =
 pub to_components-loop-from-smaller : goal.to_components-loop-from-smaller
 to_components-loop-from-smaller t c =
     let a = c.args in
-    let found = found-to (is_input (couplings_in a.state.now) c.id_of-owner.result a.port) c.loop-from.from c.coupling_count-end.result (length (table_in a.state.now).couplings) _ _ c.loop-from.invariant.1 c.next_input.ensures c.in-At.is in
-    let bounds = sweep-bounds {S = ℕ} (λ k s. done s) (is_input (couplings_in a.state.now) c.id_of-owner.result a.port) c.loop-from.from c.coupling_count-end.result 0 c.in-At.coupling found in
+    let found = found-to (is_input (couplings_in a.state.now) c.id_of-owner.result a.port) c.loop-from.from c.coupling_count-end.result (length (table_in a.state.now).couplings) _ _ c.loop-from.invariant.1 c.next_input.ensures c.in-Some.is in
+    let bounds = sweep-bounds {S = ℕ} (λ k s. done s) (is_input (couplings_in a.state.now) c.id_of-owner.result a.port) c.loop-from.from c.coupling_count-end.result 0 c.in-Some.coupling found in
     omega (arith, bounds.0, bounds.1)
 
 -- src/lib.rt:117:5
@@ -161,12 +160,12 @@ pub to_components-loop-from-preserved : goal.to_components-loop-from-preserved
 to_components-loop-from-preserved t c =
     let a = c.args in
     let g = c.loop-from.invariant.3 in
-    let found = found-to (is_input (couplings_in a.state.now) c.id_of-owner.result a.port) c.loop-from.from c.coupling_count-end.result (length (table_in a.state.now).couplings) _ _ c.loop-from.invariant.1 c.next_input.ensures c.in-At.is in
-    let m = subst (λ (r : Answer). Does r (along_input a.state.now a.services.now a.depth a.clock c.id_of-owner.result a.content c.in-At.coupling) (table_in a.state.now) c.loop-from.mem c.to_target.new.mem) c.in-Done.is c.to_target.ensures.does in (
+    let found = found-to (is_input (couplings_in a.state.now) c.id_of-owner.result a.port) c.loop-from.from c.coupling_count-end.result (length (table_in a.state.now).couplings) _ _ c.loop-from.invariant.1 c.next_input.ensures c.in-Some.is in
+    let m = subst (λ (r : Result ⊤ Refusal). Does r (along_input a.state.now a.services.now a.depth a.clock c.id_of-owner.result a.content c.in-Some.coupling) (table_in a.state.now) c.loop-from.mem c.to_target.new.mem) c.in-Ok.is c.to_target.ensures.does in (
       c.loop-from.invariant.0,
       c.loop-from.invariant.1,
       c.to_target.auto.mem ∙ c.loop-from.invariant.2,
-      going_on (table_in a.state.now) (along_input a.state.now a.services.now a.depth a.clock c.id_of-owner.result a.content) (is_input (couplings_in a.state.now) c.id_of-owner.result a.port) a.mem.now c.coupling_count-end.result c.loop-from.from c.loop-from.mem g c.in-At.coupling c.to_target.new.mem found m c.to_target.ensures.frame,
+      going_on (table_in a.state.now) (along_input a.state.now a.services.now a.depth a.clock c.id_of-owner.result a.content) (is_input (couplings_in a.state.now) c.id_of-owner.result a.port) a.mem.now c.coupling_count-end.result c.loop-from.from c.loop-from.mem g c.in-Some.coupling c.to_target.new.mem found m c.to_target.ensures.frame,
     )
 
 -- src/lib.rt:100:1
@@ -180,7 +179,7 @@ to_components-returns t c =
     let a = c.args in
     let g = c.loop-from.invariant.3 in
     let m = going_end (table_in a.state.now) (along_input a.state.now a.services.now a.depth a.clock c.id_of-owner.result a.content) (is_input (couplings_in a.state.now) c.id_of-owner.result a.port) a.mem.now c.coupling_count-end.result c.loop-from.from c.loop-from.mem g c.loop-from-test.false in
-    record { does = coupled-does a.state.now c.requires.0.scene.inside a.services.now a.depth a.clock a.mem.now c.loop-from.mem Done a.row a.port a.content c.id_of-owner.result c.coupling_count-end.result c.requires.1 c.loop-from.invariant.0 c.loop-from.invariant.1 m; frame = g.frame }
+    record { does = coupled-does a.state.now c.requires.0.scene.inside a.services.now a.depth a.clock a.mem.now c.loop-from.mem (Ok tt) a.row a.port a.content c.id_of-owner.result c.coupling_count-end.result c.requires.1 c.loop-from.invariant.0 c.loop-from.invariant.1 m; frame = g.frame }
 
 -- src/lib.rt:147:9
 pub to_target-coupling_target-to-requires : goal.to_target-coupling_target-to-requires
@@ -203,23 +202,23 @@ to_target-overflow_cast-to t c =
 pub to_target-external-requires : goal.to_target-external-requires
 to_target-external-requires t c =
     let a = c.args in
-    let e = subst (λ (x : Found). found_in x ≡ those (λ i. eqb (id_at (table_in a.state.now) i) c.coupling_target-to.result.id) (components (table_in a.state.now) a.owner)) c.in-At.is c.component_of.ensures in
-    let d = found-deep a.state.now c.requires.0.inside a.owner c.coupling_target-to.result.id c.in-At.component a.depth c.requires.2 e in
+    let e = subst (λ (x : Option ℕ). found_in x ≡ those (λ i. eqb (id_at (table_in a.state.now) i) c.coupling_target-to.result.id) (components (table_in a.state.now) a.owner)) c.in-Some.is c.component_of.ensures in
+    let d = found-deep a.state.now c.requires.0.inside a.owner c.coupling_target-to.result.id c.in-Some.component a.depth c.requires.2 e in
     (search rules, (record { scene = c.requires.0; in_table = d.0 }, d.1))
 
 -- src/lib.rt:133:1
-pub to_target-returns-in-Nothing : goal.to_target-returns-in-Nothing
-to_target-returns-in-Nothing t c =
+pub to_target-returns-in-None : goal.to_target-returns-in-None
+to_target-returns-in-None t c =
     let a = c.args in
-    let e = subst (λ (x : Found). found_in x ≡ those (λ i. eqb (id_at (table_in a.state.now) i) c.coupling_target-to.result.id) (components (table_in a.state.now) a.owner)) c.in-Nothing.is c.component_of.ensures in
+    let e = subst (λ (x : Option ℕ). found_in x ≡ those (λ i. eqb (id_at (table_in a.state.now) i) c.coupling_target-to.result.id) (components (table_in a.state.now) a.owner)) c.in-None.is c.component_of.ensures in
     let f = subst (λ (n : ℕ). [] ≡ those (λ i. eqb (id_at (table_in a.state.now) i) n) (components (table_in a.state.now) a.owner)) c.coupling_target-to.ensures.0 e in
     record { does = target_none (table_in a.state.now) a.services.now a.depth a.clock a.owner (leads_to (couplings_in a.state.now) a.coupling) a.content a.mem.now c.requires.0.ready f; frame = frame_same (table_in a.state.now) 0 0 a.mem.now }
 
 -- src/lib.rt:133:1
-pub to_target-returns-in-At : goal.to_target-returns-in-At
-to_target-returns-in-At t c =
+pub to_target-returns-in-Some : goal.to_target-returns-in-Some
+to_target-returns-in-Some t c =
     let a = c.args in
-    let e = subst (λ (x : Found). found_in x ≡ those (λ i. eqb (id_at (table_in a.state.now) i) c.coupling_target-to.result.id) (components (table_in a.state.now) a.owner)) c.in-At.is c.component_of.ensures in
-    let f = subst (λ (n : ℕ). (c.in-At.component ∷ []) ≡ those (λ i. eqb (id_at (table_in a.state.now) i) n) (components (table_in a.state.now) a.owner)) c.coupling_target-to.ensures.0 e in
-    let d = subst (λ (n : ℕ). Does c.external.result (Step.external (table_in a.state.now) a.services.now a.depth a.clock c.in-At.component n a.content) (table_in a.state.now) a.mem.now c.external.new.mem) c.coupling_target-to.ensures.1 c.external.ensures.does in
-    record { does = target_one (table_in a.state.now) a.services.now a.depth a.clock a.owner (leads_to (couplings_in a.state.now) a.coupling) a.content a.mem.now c.external.new.mem c.external.result c.in-At.component f d; frame = c.external.ensures.frame }
+    let e = subst (λ (x : Option ℕ). found_in x ≡ those (λ i. eqb (id_at (table_in a.state.now) i) c.coupling_target-to.result.id) (components (table_in a.state.now) a.owner)) c.in-Some.is c.component_of.ensures in
+    let f = subst (λ (n : ℕ). (c.in-Some.component ∷ []) ≡ those (λ i. eqb (id_at (table_in a.state.now) i) n) (components (table_in a.state.now) a.owner)) c.coupling_target-to.ensures.0 e in
+    let d = subst (λ (n : ℕ). Does c.external.result (Step.external (table_in a.state.now) a.services.now a.depth a.clock c.in-Some.component n a.content) (table_in a.state.now) a.mem.now c.external.new.mem) c.coupling_target-to.ensures.1 c.external.ensures.does in
+    record { does = target_one (table_in a.state.now) a.services.now a.depth a.clock a.owner (leads_to (couplings_in a.state.now) a.coupling) a.content a.mem.now c.external.new.mem c.external.result c.in-Some.component f d; frame = c.external.ensures.frame }

@@ -24,51 +24,51 @@ has_due-loop-from-init t c =
       ap (some_of (due (table_in a.state.now) a.depth (states_in (table_in a.state.now) a.mem.now))) (components_from (table_in a.state.now) _ _ c.row_count-end.ensures a.row c.id_of-owner.ensures),
     )
 
-pub has_due-returns-in-Nothing : goal.has_due-returns-in-Nothing
-has_due-returns-in-Nothing t c =
+pub has_due-returns-in-None : goal.has_due-returns-in-None
+has_due-returns-in-None t c =
     let a = c.args in
     sym (some-none (due (table_in a.state.now) a.depth (states_in (table_in a.state.now) a.mem.now)) (is_one (table_in a.state.now) c.id_of-owner.result) c.loop-from.from c.row_count-end.result
-    (found-next (table_in a.state.now) c.id_of-owner.result c.row_count-end.result c.loop-from.invariant.1 c.loop-from.from _ _ c.next_component.ensures c.in-Nothing.is))
+    (found-next (table_in a.state.now) c.id_of-owner.result c.row_count-end.result c.loop-from.invariant.1 c.loop-from.from _ _ c.next_component.ensures c.in-None.is))
     ∙ c.loop-from.invariant.2
 
 pub has_due-is_due-requires : goal.has_due-is_due-requires
 has_due-is_due-requires t c =
     let a = c.args in
-    let found = found-next (table_in a.state.now) c.id_of-owner.result c.row_count-end.result c.loop-from.invariant.1 c.loop-from.from _ _ c.next_component.ensures c.in-At.is in
-    let bounds = sweep-bounds {S = ℕ} (λ k s. done s) (is_one (table_in a.state.now) c.id_of-owner.result) c.loop-from.from c.row_count-end.result 0 c.in-At.component found in
+    let found = found-next (table_in a.state.now) c.id_of-owner.result c.row_count-end.result c.loop-from.invariant.1 c.loop-from.from _ _ c.next_component.ensures c.in-Some.is in
+    let bounds = sweep-bounds {S = ℕ} (λ k s. done s) (is_one (table_in a.state.now) c.id_of-owner.result) c.loop-from.from c.row_count-end.result 0 c.in-Some.component found in
     (search rules, (c.requires.0, c.requires.1, (let b = bounds.1 in let e = c.loop-from.invariant.1 in omega arith)))
 
 pub has_due-returns-then-is_due : goal.has_due-returns-then-is_due
 has_due-returns-then-is_due t c =
     let a = c.args in
     let f = due (table_in a.state.now) a.depth (states_in (table_in a.state.now) a.mem.now) in
-    let found = found-next (table_in a.state.now) c.id_of-owner.result c.row_count-end.result c.loop-from.invariant.1 c.loop-from.from _ _ c.next_component.ensures c.in-At.is in
-    sym (some-on f (is_one (table_in a.state.now) c.id_of-owner.result) c.loop-from.from c.row_count-end.result c.in-At.component found ∙ rw (sym c.is_due.ensures ∙ c.if-is_due.true))
+    let found = found-next (table_in a.state.now) c.id_of-owner.result c.row_count-end.result c.loop-from.invariant.1 c.loop-from.from _ _ c.next_component.ensures c.in-Some.is in
+    sym (some-on f (is_one (table_in a.state.now) c.id_of-owner.result) c.loop-from.from c.row_count-end.result c.in-Some.component found ∙ rw (sym c.is_due.ensures ∙ c.if-is_due.true))
     ∙ c.loop-from.invariant.2
 
 pub has_due-overflow_add-from : goal.has_due-overflow_add-from
 has_due-overflow_add-from t c =
     let a = c.args in
-    let found = found-next (table_in a.state.now) c.id_of-owner.result c.row_count-end.result c.loop-from.invariant.1 c.loop-from.from _ _ c.next_component.ensures c.in-At.is in
-    let bounds = sweep-bounds {S = ℕ} (λ k s. done s) (is_one (table_in a.state.now) c.id_of-owner.result) c.loop-from.from c.row_count-end.result 0 c.in-At.component found in
+    let found = found-next (table_in a.state.now) c.id_of-owner.result c.row_count-end.result c.loop-from.invariant.1 c.loop-from.from _ _ c.next_component.ensures c.in-Some.is in
+    let bounds = sweep-bounds {S = ℕ} (λ k s. done s) (is_one (table_in a.state.now) c.id_of-owner.result) c.loop-from.from c.row_count-end.result 0 c.in-Some.component found in
     let few = sizes-in a.state.now c.requires.0 in
     omega (arith, bounds.1, c.loop-from.invariant.1, few.0)
 
 pub has_due-loop-from-smaller : goal.has_due-loop-from-smaller
 has_due-loop-from-smaller t c =
     let a = c.args in
-    let found = found-next (table_in a.state.now) c.id_of-owner.result c.row_count-end.result c.loop-from.invariant.1 c.loop-from.from _ _ c.next_component.ensures c.in-At.is in
-    let bounds = sweep-bounds {S = ℕ} (λ k s. done s) (is_one (table_in a.state.now) c.id_of-owner.result) c.loop-from.from c.row_count-end.result 0 c.in-At.component found in
+    let found = found-next (table_in a.state.now) c.id_of-owner.result c.row_count-end.result c.loop-from.invariant.1 c.loop-from.from _ _ c.next_component.ensures c.in-Some.is in
+    let bounds = sweep-bounds {S = ℕ} (λ k s. done s) (is_one (table_in a.state.now) c.id_of-owner.result) c.loop-from.from c.row_count-end.result 0 c.in-Some.component found in
     omega (arith, bounds.0, bounds.1)
 
 pub has_due-loop-from-preserved : goal.has_due-loop-from-preserved
 has_due-loop-from-preserved t c =
     let a = c.args in
     let f = due (table_in a.state.now) a.depth (states_in (table_in a.state.now) a.mem.now) in
-    let found = found-next (table_in a.state.now) c.id_of-owner.result c.row_count-end.result c.loop-from.invariant.1 c.loop-from.from _ _ c.next_component.ensures c.in-At.is in (
+    let found = found-next (table_in a.state.now) c.id_of-owner.result c.row_count-end.result c.loop-from.invariant.1 c.loop-from.from _ _ c.next_component.ensures c.in-Some.is in (
       c.loop-from.invariant.0,
       c.loop-from.invariant.1,
-      sym (some-on f (is_one (table_in a.state.now) c.id_of-owner.result) c.loop-from.from c.row_count-end.result c.in-At.component found ∙ rw (sym c.is_due.ensures ∙ c.if-is_due.false)) ∙ c.loop-from.invariant.2,
+      sym (some-on f (is_one (table_in a.state.now) c.id_of-owner.result) c.loop-from.from c.row_count-end.result c.in-Some.component found ∙ rw (sym c.is_due.ensures ∙ c.if-is_due.false)) ∙ c.loop-from.invariant.2,
     )
 
 pub has_due-returns : goal.has_due-returns

@@ -16,24 +16,24 @@ returns-then-state-needed c =
     let is = post-short a.models.now a.connectors.now a.couplings.now a.state.now short in
     record { answers = sym (ap answered is); leaves = sym (ap (left_anew a.models.now a.connectors.now a.couplings.now a.state.now) is) }
 
-pub returns-in-Refused : goal.returns-in-Refused
-returns-in-Refused c =
+pub returns-in-Err : goal.returns-in-Err
+returns-in-Err c =
     let a = c.args in
     let enough = le-leb (words_for (length a.models.now) (length a.connectors.now) (length a.couplings.now)) (length a.state.now) (omega (arith, c.state_words-needed.ensures, c.if-state-needed.false)) in
-    let is = post-refused a.models.now a.connectors.now a.couplings.now a.state.now c.in-Refused.refusal enough (sym c.judged.ensures ∙ c.in-Refused.is) in
+    let is = post-refused a.models.now a.connectors.now a.couplings.now a.state.now c.in-Err.refusal enough (sym c.judged.ensures ∙ c.in-Err.is) in
     record { answers = sym (ap answered is); leaves = sym (ap (left_anew a.models.now a.connectors.now a.couplings.now a.state.now) is) }
 
 pub lay-requires : goal.lay-requires
 lay-requires c =
     let a = c.args in
-    let passes = has-passed (lent a.models.now a.connectors.now a.couplings.now) (sym c.judged.ensures ∙ c.in-Done.is) in
+    let passes = has-passed (lent a.models.now a.connectors.now a.couplings.now) (sym c.judged.ensures ∙ c.in-Ok.is) in
     fits a.models.now a.connectors.now a.couplings.now passes a.state.now
     (room_for a.models.now a.connectors.now a.couplings.now passes a.state.now (omega (arith, c.state_words-needed.ensures, c.if-state-needed.false)))
 
 pub returns : goal.returns
 returns c =
     let a = c.args in
-    let passes = has-passed (lent a.models.now a.connectors.now a.couplings.now) (sym c.judged.ensures ∙ c.in-Done.is) in
+    let passes = has-passed (lent a.models.now a.connectors.now a.couplings.now) (sym c.judged.ensures ∙ c.in-Ok.is) in
     let enough = le-leb (words_for (length a.models.now) (length a.connectors.now) (length a.couplings.now)) (length a.state.now) (omega (arith, c.state_words-needed.ensures, c.if-state-needed.false)) in
     let is = post-done a.models.now a.connectors.now a.couplings.now a.state.now enough passes in
     record {

@@ -19,25 +19,25 @@ put_out-requires c =
     let p = c.requires in
     let mem = a.mem.now in
     let b = begin_in mem a.row in
-    let n = c.in-Out.count in
-    let some : n ≤ length (jobs_at b mem a.row) = rw c.in-Out.is at p.3 in
+    let n = c.in-Ok.count in
+    let some : n ≤ length (jobs_at b mem a.row) = rw c.in-Ok.is at p.3 in
     let begin : c.begin_at-begin.result ≡ b = c.begin_at-begin.ensures in
     (gone-few b a.row mem p.0 n some, rw begin p.1, p.2, rw begin (gone-contents b a.row mem p.0 n some))
 
-pub returns-in-Refused : goal.returns-in-Refused
-returns-in-Refused c =
+pub returns-in-Err : goal.returns-in-Err
+returns-in-Err c =
     let a = c.args in
-    let g = c.in-Refused.is in
+    let g = c.in-Err.is in
     record { answers = rw g; writes = (λ n d. let z : ◌≡◌ {A = ℕ} 0 1 = cc in absurd (omega arith)); owns = own_same a.row (begin_in a.mem.now a.row) 64 a.at (a.at + 64) a.mem.now }
 
-pub returns-in-Out : goal.returns-in-Out
-returns-in-Out c =
+pub returns-in-Ok : goal.returns-in-Ok
+returns-in-Ok c =
     let a = c.args in
     let p = c.requires in
     let mem = a.mem.now in
     let b = begin_in mem a.row in
-    let n = c.in-Out.count in
-    let is = c.in-Out.is in
+    let n = c.in-Ok.count in
+    let is = c.in-Ok.is in
     let some : n ≤ length (jobs_at b mem a.row) = rw is at p.3 in
     let begin : c.begin_at-begin.result ≡ b = c.begin_at-begin.ensures in
     let held : c.held_at-held.result ≡ held_in mem a.row = c.held_at-held.ensures in

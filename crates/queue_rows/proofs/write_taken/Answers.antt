@@ -11,15 +11,15 @@ use Rattle.queue_rows.specs.RowLaws.{took-written, took-owns}
 use borrow.Author.Rules.{rules}
 use Rattle.queue_rows.proofs.write_taken.Goals as goal
 
-pub returns-in-Refused : goal.returns-in-Refused
-returns-in-Refused c =
+pub returns-in-Err : goal.returns-in-Err
+returns-in-Err c =
     let a = c.args in
     let e = c.answer_of.ensures in
-    let g = c.in-Refused.is in
+    let g = c.in-Err.is in
     record { answers = sym g ∙ e; writes = (λ d. let z : ◌≡◌ {A = ℕ} 0 1 = cc in absurd (omega arith)); owns = own_same a.row (begin_in a.mem.now a.row) 64 0 0 a.mem.now }
 
-pub returns-in-Done : goal.returns-in-Done
-returns-in-Done c =
+pub returns-in-Ok : goal.returns-in-Ok
+returns-in-Ok c =
     let a = c.args in
     let mem = a.mem.now in
     let b = begin_in mem a.row in
@@ -29,4 +29,4 @@ returns-in-Done c =
     let all : c.store.new.mem ≡ took_words b a.row a.next a.taken a.content mem = c.store.ensures ∙ rw own in
     let timer : T (fits binary64 a.next.timer) = search rules in
     let p = c.requires in
-    record { answers = sym c.in-Done.is ∙ c.answer_of.ensures; writes = (λ d. rw all (took-written b a.row mem p.0 a.next a.taken a.content timer p.1 p.2)); owns = rw all (took-owns b a.row mem p.0 a.next a.taken a.content) }
+    record { answers = sym c.in-Ok.is ∙ c.answer_of.ensures; writes = (λ d. rw all (took-written b a.row mem p.0 a.next a.taken a.content timer p.1 p.2)); owns = rw all (took-owns b a.row mem p.0 a.next a.taken a.content) }

@@ -14,12 +14,12 @@ pub returns-then-size-gt4611686018427387904 : goal.returns-then-size-gt461168601
 unfolding batcher_reason
 returns-then-size-gt4611686018427387904 c = rw (le-leb _ _ c.if-size-lt1.false, lt-leb _ _ c.if-size-gt4611686018427387904.true)
 
-pub returns-in-Time : goal.returns-in-Time
+pub returns-in-Some : goal.returns-in-Some
 unfolding batcher_reason
-returns-in-Time c =
-    rw (le-leb _ _ c.if-size-lt1.false, le-leb _ _ c.if-size-gt4611686018427387904.false, time-read _ _ (sym c.time_of_bits.ensures ∙ c.in-Time.is)) c.join_reason.ensures
+returns-in-Some c =
+    rw (le-leb _ _ c.if-size-lt1.false, le-leb _ _ c.if-size-gt4611686018427387904.false, time-read _ _ (sym c.time_of_bits.ensures ∙ c.in-Some.is)) c.join_reason.ensures
 
-pub returns-in-Bad : goal.returns-in-Bad
+pub returns-in-None : goal.returns-in-None
 unfolding batcher_reason
-returns-in-Bad c =
-    rw (le-leb _ _ c.if-size-lt1.false, le-leb _ _ c.if-size-gt4611686018427387904.false, bad-says _ (sym c.time_of_bits.ensures ∙ c.in-Bad.is))
+returns-in-None c =
+    rw (le-leb _ _ c.if-size-lt1.false, le-leb _ _ c.if-size-gt4611686018427387904.false, bad-says _ (sym c.time_of_bits.ensures ∙ c.in-None.is))

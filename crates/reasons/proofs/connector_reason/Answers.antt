@@ -9,12 +9,12 @@ pub returns-then-cells-ne4 : goal.returns-then-cells-ne4
 unfolding connector_reason
 returns-then-cells-ne4 c = rw (ne_eqb _ _ c.if-cells-ne4.true)
 
-pub returns-in-At : goal.returns-in-At
+pub returns-in-Some : goal.returns-in-Some
 unfolding connector_reason
-returns-in-At c =
-    rw (eq-eqb _ _ c.if-cells-ne4.false) (widths-by ConnectorWide c.args.cells.now NoReason 0 4 c.first_wide.ensures c.in-At.is)
+returns-in-Some c =
+    rw (eq-eqb _ _ c.if-cells-ne4.false) (widths-by ConnectorWide c.args.cells.now NoReason 0 4 c.first_wide.ensures c.in-Some.is)
 
-pub returns-in-Nothing : goal.returns-in-Nothing
+pub returns-in-None : goal.returns-in-None
 unfolding connector_reason
-returns-in-Nothing c =
-    rw (eq-eqb _ _ c.if-cells-ne4.false) (widths-by ConnectorWide c.args.cells.now NoReason 0 4 c.first_wide.ensures c.in-Nothing.is)
+returns-in-None c =
+    rw (eq-eqb _ _ c.if-cells-ne4.false) (widths-by ConnectorWide c.args.cells.now NoReason 0 4 c.first_wide.ensures c.in-None.is)

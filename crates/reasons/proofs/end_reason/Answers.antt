@@ -10,15 +10,15 @@ pub returns-then-owner-gt65535 : goal.returns-then-owner-gt65535
 unfolding end_reason
 returns-then-owner-gt65535 c = rw (port-beyond c.args.cells.now 0 c.word_at-owner.ensures c.if-owner-gt65535.true)
 
-pub returns-in-At : goal.returns-in-At
+pub returns-in-Some : goal.returns-in-Some
 unfolding end_reason
-returns-in-At c =
+returns-in-Some c =
     let row = c.args.cells.now in
-    rw (port-fits row 0 c.word_at-owner.ensures c.if-owner-gt65535.false) (widths-by CouplingWide row _ 2 4 c.first_wide.ensures c.in-At.is)
+    rw (port-fits row 0 c.word_at-owner.ensures c.if-owner-gt65535.false) (widths-by CouplingWide row _ 2 4 c.first_wide.ensures c.in-Some.is)
 
-pub returns-in-Nothing : goal.returns-in-Nothing
+pub returns-in-None : goal.returns-in-None
 unfolding end_reason
-returns-in-Nothing c =
+returns-in-None c =
     let row = c.args.cells.now in
     let told : c.owner_reason.result ≡ owner_reason c.args.models.now (cell row 0) (cell row 1) (cell row 4) = rw (← c.word_at-owner.ensures, ← c.word_at-kind.ensures, ← c.word_at-target.ensures) c.owner_reason.ensures in
-    rw (port-fits row 0 c.word_at-owner.ensures c.if-owner-gt65535.false) (told ∙ widths-by CouplingWide row _ 2 4 c.first_wide.ensures c.in-Nothing.is)
+    rw (port-fits row 0 c.word_at-owner.ensures c.if-owner-gt65535.false) (told ∙ widths-by CouplingWide row _ 2 4 c.first_wide.ensures c.in-None.is)

@@ -3,12 +3,12 @@ use mathlib.Core.Path.{sym, ◌∙◌}
 use Rattle.reasons.specs.Reasons.{join_reason}
 use Rattle.reasons.proofs.join_reason.Goals as goal
 
-pub returns-in-At : goal.returns-in-At
+pub returns-in-Some : goal.returns-in-Some
 unfolding join_reason
-returns-in-At c =
-    rw (← c.id_at-id.ensures, sym c.row_with.ensures ∙ c.in-At.is)
+returns-in-Some c =
+    rw (← c.id_at-id.ensures, sym c.row_with.ensures ∙ c.in-Some.is)
 
-pub returns-in-Nothing : goal.returns-in-Nothing
+pub returns-in-None : goal.returns-in-None
 unfolding join_reason
-returns-in-Nothing c =
-    rw (← c.id_at-id.ensures, sym c.row_with.ensures ∙ c.in-Nothing.is) c.place_reason.ensures
+returns-in-None c =
+    rw (← c.id_at-id.ensures, sym c.row_with.ensures ∙ c.in-None.is) c.place_reason.ensures

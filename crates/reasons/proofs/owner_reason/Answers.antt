@@ -4,9 +4,9 @@ use borrow.Author.Tests.{eq-eqb, ne_eqb}
 use Rattle.reasons.specs.Reasons.{owner_reason}
 use Rattle.reasons.proofs.owner_reason.Goals as goal
 
-pub returns-in-Nothing : goal.returns-in-Nothing
+pub returns-in-None : goal.returns-in-None
 unfolding owner_reason
-returns-in-Nothing c = rw (sym c.row_with.ensures ∙ c.in-Nothing.is)
+returns-in-None c = rw (sym c.row_with.ensures ∙ c.in-None.is)
 
 pub returns-then-kind-ne1 : goal.returns-then-kind-ne1
 unfolding owner_reason

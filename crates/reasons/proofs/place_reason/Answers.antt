@@ -7,20 +7,20 @@ use Rattle.table.specs.Readings.{parent-back}
 use Rattle.reasons.specs.Reasons.{place_reason}
 use Rattle.reasons.proofs.place_reason.Goals as goal
 
-pub returns-in-At : goal.returns-in-At
+pub returns-in-Some : goal.returns-in-Some
 unfolding place_reason
-returns-in-At c =
+returns-in-Some c =
     let a = c.args in
-    rw (parent-back (parent_in (row_of 10 a.models.now a.row)) c.parent_at.ensures ∙ ap option_of c.in-Of.is, sym c.row_with.ensures ∙ c.in-At.is) c.depth_reason.ensures
+    rw (parent-back (parent_in (row_of 10 a.models.now a.row)) c.parent_at.ensures ∙ ap option_of c.in-Some.is, sym c.row_with.ensures ∙ c.in-Some.is) c.depth_reason.ensures
 
-pub returns-in-Nothing : goal.returns-in-Nothing
+pub returns-in-None : goal.returns-in-None
 unfolding place_reason
-returns-in-Nothing c =
+returns-in-None c =
     let a = c.args in
-    rw (parent-back (parent_in (row_of 10 a.models.now a.row)) c.parent_at.ensures ∙ ap option_of c.in-Of.is, sym c.row_with.ensures ∙ c.in-Nothing.is)
+    rw (parent-back (parent_in (row_of 10 a.models.now a.row)) c.parent_at.ensures ∙ ap option_of c.in-Some.is, sym c.row_with.ensures ∙ c.in-None.is)
 
-pub returns-in-Nobody : goal.returns-in-Nobody
+pub returns-in-None : goal.returns-in-None
 unfolding place_reason
-returns-in-Nobody c =
+returns-in-None c =
     let a = c.args in
-    rw (parent-back (parent_in (row_of 10 a.models.now a.row)) c.parent_at.ensures ∙ ap option_of c.in-Nobody.is) c.depth_reason-in-Nobody.ensures
+    rw (parent-back (parent_in (row_of 10 a.models.now a.row)) c.parent_at.ensures ∙ ap option_of c.in-None.is) c.depth_reason-in-None.ensures

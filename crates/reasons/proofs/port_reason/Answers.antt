@@ -9,14 +9,14 @@ pub returns-then-word_at-gt65535 : goal.returns-then-word_at-gt65535
 unfolding port_reason
 returns-then-word_at-gt65535 c = rw (port-beyond c.args.cells.now 0 c.word_at.ensures c.if-word_at-gt65535.true)
 
-pub returns-in-At : goal.returns-in-At
+pub returns-in-Some : goal.returns-in-Some
 unfolding port_reason
-returns-in-At c =
+returns-in-Some c =
     let row = c.args.cells.now in
-    rw (port-fits row 0 c.word_at.ensures c.if-word_at-gt65535.false) (widths-by ModelWide row _ 4 4 c.first_wide.ensures c.in-At.is)
+    rw (port-fits row 0 c.word_at.ensures c.if-word_at-gt65535.false) (widths-by ModelWide row _ 4 4 c.first_wide.ensures c.in-Some.is)
 
-pub returns-in-Nothing : goal.returns-in-Nothing
+pub returns-in-None : goal.returns-in-None
 unfolding port_reason
-returns-in-Nothing c =
+returns-in-None c =
     let row = c.args.cells.now in
-    rw (port-fits row 0 c.word_at.ensures c.if-word_at-gt65535.false) (c.kind_reason.ensures ∙ widths-by ModelWide row _ 4 4 c.first_wide.ensures c.in-Nothing.is)
+    rw (port-fits row 0 c.word_at.ensures c.if-word_at-gt65535.false) (c.kind_reason.ensures ∙ widths-by ModelWide row _ 4 4 c.first_wide.ensures c.in-None.is)

@@ -55,7 +55,7 @@ pub loop-completed-preserved : goal.loop-completed-preserved
 loop-completed-preserved c =
     let a = c.args in
     let t = table_in a.state.now in
-    let w = subst (λ (r : Stepped). Steps r a.services.now t c.loop-completed.mem c.step.new.mem) c.in-Done.is c.step.ensures.steps in (
+    let w = subst (λ (r : Stepped). Steps r a.services.now t c.loop-completed.mem c.step.new.mem) c.in-Ok.is c.step.ensures.steps in (
       c.step.auto.mem ∙ c.loop-completed.invariant.0,
       w.sound,
       reached-on t a.services.now (sim_of a.state.now) c.loop-completed.completed (sim_in t c.loop-completed.mem) (sim_in t c.step.new.mem) w.log c.loop-completed.invariant.2 w.is,

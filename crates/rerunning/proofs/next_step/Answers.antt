@@ -17,7 +17,7 @@ again-requires c =
 pub look-requires : goal.look-requires
 look-requires c =
     let a = c.args in
-    let w = subst (λ (r : Stepped). Steps r a.services.now (table_in a.state.now) a.mem.now c.step.new.mem) c.in-Done.is c.step.ensures.steps in
+    let w = subst (λ (r : Stepped). Steps r a.services.now (table_in a.state.now) a.mem.now c.step.new.mem) c.in-Ok.is c.step.ensures.steps in
     (c.requires.0, w.sound, c.requires.2, (_, c.requires.4))
 
 -- src/lib.rt:73:1
@@ -40,10 +40,10 @@ returns-in-Halfway c =
     record { nexts = refuses a.services.now a.until a.room t a.mem.now after c.in-Halfway.refusal c.again.ensures.sound (same-done (sim_in t after) (sim_in t a.mem.now) (sym c.again.ensures.again ∙ c.requires.4)) k; long = c.again.ensures.long ∙ c.step.ensures.long }
 
 -- src/lib.rt:73:1
-pub returns-in-Done : goal.returns-in-Done
-returns-in-Done c =
+pub returns-in-Ok : goal.returns-in-Ok
+returns-in-Ok c =
     let a = c.args in
     let t = table_in a.state.now in
     let mid = c.step.new.mem in
-    let w = subst (λ (r : Stepped). Steps r a.services.now t a.mem.now mid) c.in-Done.is c.step.ensures.steps in
+    let w = subst (λ (r : Stepped). Steps r a.services.now t a.mem.now mid) c.in-Ok.is c.step.ensures.steps in
     record { nexts = nexts c.look.result a.services.now a.until a.room a.steps a.state.now a.mem.now mid c.look.new.mem w c.requires.4 c.look.ensures.looks; long = c.look.ensures.long ∙ c.step.ensures.long }

@@ -17,12 +17,12 @@ pub look_at-requires : goal.look_at-requires
 look_at-requires c =
     omega arith
 
-pub returns-in-To : goal.returns-in-To
-returns-in-To c =
+pub returns-in-Some : goal.returns-in-Some
+returns-in-Some c =
     let a = c.args in
     let l = c.loop-start in
     let sees = connector-seen a.connectors.now a.source a.port l.looked l.start l.invariant.2 _ c.look_at.ensures.sees in
-    looking-found _ _ _ _ l.looked l.invariant.3 (omega (arith, c.loop-start-test.true)) _ sees _ c.look_at.ensures.once _ c.in-To.is
+    looking-found _ _ _ _ l.looked l.invariant.3 (omega (arith, c.loop-start-test.true)) _ sees _ c.look_at.ensures.once _ c.in-Some.is
 
 pub loop-start-smaller : goal.loop-start-smaller
 loop-start-smaller c =
@@ -33,7 +33,7 @@ loop-start-preserved c =
     let a = c.args in
     let l = c.loop-start in
     let sees = connector-seen a.connectors.now a.source a.port l.looked l.start l.invariant.2 _ c.look_at.ensures.sees in
-    (l.invariant.0, l.invariant.1, omega (arith, c.look_at.ensures.once), looking-on _ _ _ _ l.looked l.invariant.3 (omega (arith, c.loop-start-test.true)) _ sees _ c.look_at.ensures.once c.in-Other.is)
+    (l.invariant.0, l.invariant.1, omega (arith, c.look_at.ensures.once), looking-on _ _ _ _ l.looked l.invariant.3 (omega (arith, c.loop-start-test.true)) _ sees _ c.look_at.ensures.once c.in-None.is)
 
 pub returns : goal.returns
 returns c =

@@ -26,12 +26,12 @@ send_one-requires c =
     let room : a.active + 1536 ≤ length s.mem = omega (arith, s.invariant.frame.long) in
     (pre.0, pre.2, pre.3, room, s.invariant.few)
 
-pub shape_of-mem-in-Refused : goal.shape_of-mem-in-Refused
-shape_of-mem-in-Refused c =
+pub shape_of-mem-in-Err : goal.shape_of-mem-in-Err
+shape_of-mem-in-Err c =
     c.send_one.ensures.only.long ∙ c.loop-next.invariant.frame.long
 
-pub returns-in-Refused : goal.returns-in-Refused
-returns-in-Refused c =
+pub returns-in-Err : goal.returns-in-Err
+returns-in-Err c =
     let a = c.args in
     let pre = c.requires in
     let t = table_in a.state.now in
@@ -39,7 +39,7 @@ returns-in-Refused c =
     let one = c.send_one in
     record {
       sends = going-stops t a.clock a.row a.from a.messages a.mem.now a.active a.count s.next s.sent s.mem s.invariant c.loop-next-test.true pre.3 pre.4
-          one.result one.new.mem one.ensures.sends c.in-Refused.refusal c.in-Refused.is;
+          one.result one.new.mem one.ensures.sends c.in-Err.refusal c.in-Err.is;
       only = only_then a.active (a.active + 1536) a.mem.now s.mem one.new.mem s.invariant.frame one.ensures.only;
     }
 
@@ -50,7 +50,7 @@ loop-next-preserved c =
     let s = c.loop-next in
     let one = c.send_one in
     going_on (table_in a.state.now) a.clock a.row a.from a.messages a.mem.now a.active a.count s.next s.sent s.mem s.invariant c.loop-next-test.true pre.3 pre.4
-    one.result one.new.mem one.ensures.sends c.in-Out.n c.in-Out.is one.ensures.only
+    one.result one.new.mem one.ensures.sends c.in-Ok.n c.in-Ok.is one.ensures.only
 
 pub shape_of-mem : goal.shape_of-mem
 shape_of-mem c =

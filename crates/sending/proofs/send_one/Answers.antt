@@ -13,16 +13,16 @@ loop-looked-init c =
     let pre = c.requires in
     along-start a.state.now a.clock a.row (out_at a.port a.content) a.active a.count a.mem.now pre.0 pre.4
 
-pub shape_of-mem-in-Nothing : goal.shape_of-mem-in-Nothing
-shape_of-mem-in-Nothing c =
+pub shape_of-mem-in-None : goal.shape_of-mem-in-None
+shape_of-mem-in-None c =
     c.loop-looked.invariant.frame.long
 
-pub returns-in-Nothing : goal.returns-in-Nothing
-returns-in-Nothing c =
+pub returns-in-None : goal.returns-in-None
+returns-in-None c =
     let a = c.args in
     let m = out_at a.port a.content in
     let s = c.loop-looked in
-    let found = none-along a.state.now a.clock a.row m _ s.looked _ _ c.id_of-id.ensures c.next_connector.ensures c.in-Nothing.is in
+    let found = none-along a.state.now a.clock a.row m _ s.looked _ _ c.id_of-id.ensures c.next_connector.ensures c.in-None.is in
     record { sends = along-none a.state.now a.clock a.row m a.active a.count a.mem.now s.looked s.sent s.mem s.invariant found; only = s.invariant.frame }
 
 pub shape_of-mem-then-sent-eq256 : goal.shape_of-mem-then-sent-eq256
@@ -34,7 +34,7 @@ returns-then-sent-eq256 c =
     let a = c.args in
     let m = out_at a.port a.content in
     let s = c.loop-looked in
-    let found = one_along a.state.now a.clock a.row m _ s.looked _ _ c.id_of-id.ensures c.next_connector.ensures _ _ c.in-At.is in
+    let found = one_along a.state.now a.clock a.row m _ s.looked _ _ c.id_of-id.ensures c.next_connector.ensures _ _ c.in-Some.is in
     record { sends = along-full a.state.now a.clock a.row m a.active a.count a.mem.now s.looked s.sent s.mem s.invariant _ found.0 c.if-sent-eq256.true; only = s.invariant.frame }
 
 pub overflow_mul-sent : goal.overflow_mul-sent
@@ -58,7 +58,7 @@ loop-looked-smaller c =
     let a = c.args in
     let s = c.loop-looked in
     let m = out_at a.port a.content in
-    let found = one_along a.state.now a.clock a.row m _ s.looked _ _ c.id_of-id.ensures c.next_connector.ensures _ _ c.in-At.is in
+    let found = one_along a.state.now a.clock a.row m _ s.looked _ _ c.id_of-id.ensures c.next_connector.ensures _ _ c.in-Some.is in
     let bounds = found-bounds a.state.now a.clock a.row m s.looked _ found.0 in
     omega (arith, bounds.0, bounds.1, found.2, c.connector_count-end.ensures)
 
@@ -68,7 +68,7 @@ loop-looked-preserved c =
     let pre = c.requires in
     let m = out_at a.port a.content in
     let s = c.loop-looked in
-    let found = one_along a.state.now a.clock a.row m _ s.looked _ _ c.id_of-id.ensures c.next_connector.ensures _ _ c.in-At.is in
+    let found = one_along a.state.now a.clock a.row m _ s.looked _ _ c.id_of-id.ensures c.next_connector.ensures _ _ c.in-Some.is in
     let few = s.invariant.few in
     let full = c.if-sent-eq256.false in
     let free : s.sent < 256 = omega arith in

@@ -1,8 +1,8 @@
 -- `simulation::get_messages` meets its contract. Assumes nothing.
+use Rattle.std.specs.Prelude.{Ok}
 use native.Mathlib.Omega.{arith}
 use mathlib.Core.Path.{sym, ap, ◌∙◌}
 use Prim.Native.Nat.{ℕ}
-use Rattle.simulation.specs.declared.Listing.TheVariants as listing
 use Rattle.rules.specs.Layout.{room_in}
 use Rattle.rules.specs.Calls as Calls
 use Rattle.storing.specs.Lent.{listed}
@@ -31,4 +31,4 @@ get_messages-requires c =
 pub returns : goal.returns
 returns c =
     let e = listed-done c.args.state.now (sym c.is_state.ensures ∙ c.if-not-is_state.false) (room_in c.args.rows.now) (omega (arith, c.active_count.ensures, c.if-rows-active_count.false)) in
-    record { answers = ap (λ (n : ℕ). listing.Count n) c.get_messages.ensures.counts ∙ ap count_told (sym e); lays = c.get_messages.ensures.lays ∙ ap (listed c.args.rows.now) (sym e) }
+    record { answers = ap (λ (n : ℕ). Ok n) c.get_messages.ensures.counts ∙ ap count_told (sym e); lays = c.get_messages.ensures.lays ∙ ap (listed c.args.rows.now) (sym e) }

@@ -26,16 +26,16 @@ returns-then-state-state_words c =
 
 pub replace-requires : goal.replace-requires
 replace-requires c =
-    let passes = has-passed (lent c.args.models.now c.args.connectors.now c.args.couplings.now) (sym c.judged.ensures ∙ c.in-Done.is) in
+    let passes = has-passed (lent c.args.models.now c.args.connectors.now c.args.couplings.now) (sym c.judged.ensures ∙ c.in-Ok.is) in
     (stored_of c.args.state.now (stored c.args.state.now (sym c.is_state.ensures ∙ c.if-not-is_state.false)), passes, room_for c.args.models.now c.args.connectors.now c.args.couplings.now passes c.args.state.now (omega (arith, c.state_words.ensures, c.if-state-state_words.false)))
 
-pub returns-in-Refused : goal.returns-in-Refused
-returns-in-Refused c =
-    let e = put_refused c.args.models.now c.args.connectors.now c.args.couplings.now c.args.state.now (sym c.is_state.ensures ∙ c.if-not-is_state.false) c.in-Refused.refusal (le-leb (words_for (length c.args.models.now) (length c.args.connectors.now) (length c.args.couplings.now)) (length c.args.state.now) (omega (arith, c.state_words.ensures, c.if-state-state_words.false))) (sym c.judged.ensures ∙ c.in-Refused.is) in
+pub returns-in-Err : goal.returns-in-Err
+returns-in-Err c =
+    let e = put_refused c.args.models.now c.args.connectors.now c.args.couplings.now c.args.state.now (sym c.is_state.ensures ∙ c.if-not-is_state.false) c.in-Err.refusal (le-leb (words_for (length c.args.models.now) (length c.args.connectors.now) (length c.args.couplings.now)) (length c.args.state.now) (omega (arith, c.state_words.ensures, c.if-state-state_words.false))) (sym c.judged.ensures ∙ c.in-Err.is) in
     record { answers = ap (λ (o : Outcome Simulation). answered o) (sym e); leaves = ap (left_anew c.args.models.now c.args.connectors.now c.args.couplings.now c.args.state.now) (sym e) }
 
-pub returns-in-Done : goal.returns-in-Done
-returns-in-Done c =
-    let passes = has-passed (lent c.args.models.now c.args.connectors.now c.args.couplings.now) (sym c.judged.ensures ∙ c.in-Done.is) in
+pub returns-in-Ok : goal.returns-in-Ok
+returns-in-Ok c =
+    let passes = has-passed (lent c.args.models.now c.args.connectors.now c.args.couplings.now) (sym c.judged.ensures ∙ c.in-Ok.is) in
     let e = put-done c.args.models.now c.args.connectors.now c.args.couplings.now c.args.state.now (sym c.is_state.ensures ∙ c.if-not-is_state.false) (le-leb (words_for (length c.args.models.now) (length c.args.connectors.now) (length c.args.couplings.now)) (length c.args.state.now) (omega (arith, c.state_words.ensures, c.if-state-state_words.false))) passes in
     record { answers = ap (λ (o : Outcome Simulation). answered o) (sym e); leaves = c.replace.ensures ∙ ap (left_anew c.args.models.now c.args.connectors.now c.args.couplings.now c.args.state.now) (sym e) }

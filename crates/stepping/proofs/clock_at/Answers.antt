@@ -6,11 +6,11 @@ use Rattle.memory.specs.Words.{word_at}
 use Rattle.stepping.proofs.clock_at.Goals as goal
 
 -- src/lib.rt:32:1
-pub returns-in-Time : goal.returns-in-Time
-returns-in-Time c =
-    (time-says (word_at c.args.mem.now 1) c.in-Time.clock (sym c.time_of_bits.ensures ∙ c.in-Time.is)).1
+pub returns-in-Some : goal.returns-in-Some
+returns-in-Some c =
+    (time-says (word_at c.args.mem.now 1) c.in-Some.clock (sym c.time_of_bits.ensures ∙ c.in-Some.is)).1
 
 -- src/lib.rt:32:1
-pub returns-in-Bad : goal.returns-in-Bad
-returns-in-Bad c =
-    absurd (subst T (bad-says (word_at c.args.mem.now 1) (sym c.time_of_bits.ensures ∙ c.in-Bad.is)) c.requires.1)
+pub returns-in-None : goal.returns-in-None
+returns-in-None c =
+    absurd (subst T (bad-says (word_at c.args.mem.now 1) (sym c.time_of_bits.ensures ∙ c.in-None.is)) c.requires.1)

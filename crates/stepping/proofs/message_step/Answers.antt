@@ -1,4 +1,6 @@
 -- `stepping::message_step` meets its contract. Assumes nothing.
+use Rattle.std.specs.Prelude.{Result, ⊤}
+use Rattle.rules.specs.declared.Refusal.{Refusal}
 use Prim.Native.Nat.{ℕ, ◌^◌}
 use mathlib.Core.Path.{◌≡◌, refl, sym, subst, ◌∙◌}
 use mathlib.Core.List.{[], ◌∷◌, ◌++◌}
@@ -12,7 +14,6 @@ use Rattle.rules.specs.Ends.{All}
 use Rattle.rules.proofs.Worlds.{MessageFits}
 use Rattle.rules.specs.Step as Step
 use Rattle.rules.specs.Step.{waited}
-use Rattle.memory.specs.declared.Answer.{Answer}
 use Rattle.memory.specs.Words.{word_at}
 use Rattle.lookup.specs.Inside.{table_in}
 use Rattle.lookup.specs.InsideLaws.{fine-in}
@@ -43,7 +44,7 @@ close-requires c =
     let t = table_in a.state.now in
     let s = c.requires.1 in
     let mid = c.take_all.new.mem in
-    let m = subst (λ (r : Answer). Does r (Step.taken t a.services.now a.clock (messages_in a.active (word_at a.mem.now 0) a.mem.now)) t a.mem.now mid) c.in-Done.is c.take_all.ensures.does in
+    let m = subst (λ (r : Result ⊤ Refusal). Does r (Step.taken t a.services.now a.clock (messages_in a.active (word_at a.mem.now 0) a.mem.now)) t a.mem.now mid) c.in-Ok.is c.take_all.ensures.does in
     let long = c.take_all.auto.mem in (
       record { inside = c.requires.0; ready = m.ready; time = subst (λ (x : Float). T (is_time x)) (sym c.requires.2) s.clock },
       c.requires.3,
@@ -51,19 +52,19 @@ close-requires c =
     )
 
 -- src/lib.rt:140:1
-pub returns-in-Refused : goal.returns-in-Refused
-returns-in-Refused c =
+pub returns-in-Err : goal.returns-in-Err
+returns-in-Err c =
     let a = c.args in
     let t = table_in a.state.now in
     let s = c.requires.1 in
     let mid = c.take_all.new.mem in
     let d = taken_as t a.services.now a.mem.now mid a.clock a.active (word_at a.mem.now 0) c.take_all.result c.requires.2 c.requires.3 refl c.take_all.ensures.does in
-    let m = subst (λ (r : Answer). Does r (Step.taken t a.services.now (clock_in a.mem.now) (active_in t a.mem.now)) t a.mem.now mid) c.in-Refused.is d in
-    record { steps = taken-stops t a.services.now a.mem.now c.requires.4 s.clock c.in-Refused.refusal m; long = c.take_all.auto.mem }
+    let m = subst (λ (r : Result ⊤ Refusal). Does r (Step.taken t a.services.now (clock_in a.mem.now) (active_in t a.mem.now)) t a.mem.now mid) c.in-Err.is d in
+    record { steps = taken-stops t a.services.now a.mem.now c.requires.4 s.clock c.in-Err.refusal m; long = c.take_all.auto.mem }
 
 -- src/lib.rt:140:1
-pub returns-in-Done-close : goal.returns-in-Done-close
-returns-in-Done-close c =
+pub returns-in-Ok-close : goal.returns-in-Ok-close
+returns-in-Ok-close c =
     let a = c.args in
     let t = table_in a.state.now in
     let s = c.requires.1 in
@@ -71,14 +72,14 @@ returns-in-Done-close c =
     let after = c.close.new.mem in
     let short : T (is_word (length a.services.now)) = lt→ltb (length a.services.now) (2 ^ 64) c.well_formed.1.0.0 in
     let d = taken_as t a.services.now a.mem.now mid a.clock a.active (word_at a.mem.now 0) c.take_all.result c.requires.2 c.requires.3 refl c.take_all.ensures.does in
-    let m = subst (λ (r : Answer). Does r (Step.taken t a.services.now (clock_in a.mem.now) (active_in t a.mem.now)) t a.mem.now mid) c.in-Done.is d in
-    let shut = subst (λ (r : Answer). Closed r t a.services.now (clock_in a.mem.now) mid after) c.in-Done-close.is (closed-as t a.services.now a.clock (clock_in a.mem.now) mid after c.close.result c.requires.2 c.close.ensures.closes) in
+    let m = subst (λ (r : Result ⊤ Refusal). Does r (Step.taken t a.services.now (clock_in a.mem.now) (active_in t a.mem.now)) t a.mem.now mid) c.in-Ok.is d in
+    let shut = subst (λ (r : Result ⊤ Refusal). Closed r t a.services.now (clock_in a.mem.now) mid after) c.in-Ok-close.is (closed-as t a.services.now a.clock (clock_in a.mem.now) mid after c.close.result c.requires.2 c.close.ensures.closes) in
     let long : length after ≡ length a.mem.now = c.close.ensures.long ∙ c.take_all.auto.mem in
     record { steps = ends-done t (fine-in a.state.now c.requires.0) a.services.now short a.mem.now s (clock_in a.mem.now) mid (m.more [] ++ waited instant ∷ []) (taken-on t a.services.now a.mem.now c.requires.4 s.clock mid m) after long shut; long = long }
 
 -- src/lib.rt:140:1
-pub returns-in-Refused-close : goal.returns-in-Refused-close
-returns-in-Refused-close c =
+pub returns-in-Err-close : goal.returns-in-Err-close
+returns-in-Err-close c =
     let a = c.args in
     let t = table_in a.state.now in
     let s = c.requires.1 in
@@ -86,6 +87,6 @@ returns-in-Refused-close c =
     let after = c.close.new.mem in
     let short : T (is_word (length a.services.now)) = lt→ltb (length a.services.now) (2 ^ 64) c.well_formed.1.0.0 in
     let d = taken_as t a.services.now a.mem.now mid a.clock a.active (word_at a.mem.now 0) c.take_all.result c.requires.2 c.requires.3 refl c.take_all.ensures.does in
-    let m = subst (λ (r : Answer). Does r (Step.taken t a.services.now (clock_in a.mem.now) (active_in t a.mem.now)) t a.mem.now mid) c.in-Done.is d in
-    let shut = subst (λ (r : Answer). Closed r t a.services.now (clock_in a.mem.now) mid after) c.in-Refused-close.is (closed-as t a.services.now a.clock (clock_in a.mem.now) mid after c.close.result c.requires.2 c.close.ensures.closes) in
-    record { steps = ends-halfway t (fine-in a.state.now c.requires.0) a.services.now short a.mem.now s (clock_in a.mem.now) mid (m.more [] ++ waited instant ∷ []) (taken-on t a.services.now a.mem.now c.requires.4 s.clock mid m) c.in-Refused-close.refusal shut; long = c.close.ensures.long ∙ c.take_all.auto.mem }
+    let m = subst (λ (r : Result ⊤ Refusal). Does r (Step.taken t a.services.now (clock_in a.mem.now) (active_in t a.mem.now)) t a.mem.now mid) c.in-Ok.is d in
+    let shut = subst (λ (r : Result ⊤ Refusal). Closed r t a.services.now (clock_in a.mem.now) mid after) c.in-Err-close.is (closed-as t a.services.now a.clock (clock_in a.mem.now) mid after c.close.result c.requires.2 c.close.ensures.closes) in
+    record { steps = ends-halfway t (fine-in a.state.now c.requires.0) a.services.now short a.mem.now s (clock_in a.mem.now) mid (m.more [] ++ waited instant ∷ []) (taken-on t a.services.now a.mem.now c.requires.4 s.clock mid m) c.in-Err-close.refusal shut; long = c.close.ensures.long ∙ c.take_all.auto.mem }

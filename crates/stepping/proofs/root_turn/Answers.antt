@@ -1,10 +1,11 @@
 -- `stepping::root_turn` meets its contract. Assumes nothing.
+use Rattle.std.specs.Prelude.{Result, ℕ}
+use Rattle.rules.specs.declared.Refusal.{Refusal}
 use Prim.Native.Nat.{◌+◌, ◌≤◌}
 use mathlib.Core.Path.{sym, subst, ◌∙◌}
 use native.Mathlib.Omega.{arith}
 use lib.ListN.{length}
 use Rattle.rules.specs.Step as Step
-use Rattle.memory.specs.declared.Put.{Put}
 use Rattle.lookup.specs.Inside.{table_in}
 use Rattle.views.specs.World.{Gives}
 use Rattle.views.proofs.Frames.{frame_same, frame_then, frame-wider}
@@ -24,28 +25,28 @@ send_all-requires c =
     let a = c.args in
     let t = table_in a.state.now in
     let mid = c.internal.new.mem in
-    let p = subst (λ (r : Put). Gives r (a.active + 1536) (Step.internal t a.services.now 5 a.clock a.row) t a.mem.now mid) c.in-Out.is c.internal.ensures.gives in
+    let p = subst (λ (r : Result ℕ Refusal). Gives r (a.active + 1536) (Step.internal t a.services.now 5 a.clock a.row) t a.mem.now mid) c.in-Ok.is c.internal.ensures.gives in
     let long = c.internal.auto.mem in
     (c.requires.0.scene.inside, c.requires.0.in_table, c.requires.0.scene.time, c.requires.2, (omega arith), (let r = c.requires.3 in omega (arith, long, r)), p.few, c.requires.4)
 
 -- src/lib.rt:52:1
-pub returns-in-Refused : goal.returns-in-Refused
-returns-in-Refused c =
+pub returns-in-Err : goal.returns-in-Err
+returns-in-Err c =
     let a = c.args in
     let t = table_in a.state.now in
     let mid = c.internal.new.mem in
-    let s = subst (λ (r : Put). Gives r (a.active + 1536) (Step.internal t a.services.now 5 a.clock a.row) t a.mem.now mid) c.in-Refused.is c.internal.ensures.gives in
-    record { joins = root-stops t a.services.now a.clock a.row a.active a.count a.mem.now (sym c.is_due.ensures ∙ c.if-not-is_due.false) c.in-Refused.refusal s; frame = frame-wider t (a.active + 1536) (length a.mem.now) a.active (length a.mem.now) a.mem.now mid (omega arith) (omega arith) c.internal.ensures.frame }
+    let s = subst (λ (r : Result ℕ Refusal). Gives r (a.active + 1536) (Step.internal t a.services.now 5 a.clock a.row) t a.mem.now mid) c.in-Err.is c.internal.ensures.gives in
+    record { joins = root-stops t a.services.now a.clock a.row a.active a.count a.mem.now (sym c.is_due.ensures ∙ c.if-not-is_due.false) c.in-Err.refusal s; frame = frame-wider t (a.active + 1536) (length a.mem.now) a.active (length a.mem.now) a.mem.now mid (omega arith) (omega arith) c.internal.ensures.frame }
 
 -- src/lib.rt:52:1
-pub returns-in-Out : goal.returns-in-Out
-returns-in-Out c =
+pub returns-in-Ok : goal.returns-in-Ok
+returns-in-Ok c =
     let a = c.args in
     let t = table_in a.state.now in
     let mid = c.internal.new.mem in
     let after = c.send_all.new.mem in
-    let n = c.in-Out.messages in
-    let p = subst (λ (r : Put). Gives r (a.active + 1536) (Step.internal t a.services.now 5 a.clock a.row) t a.mem.now mid) c.in-Out.is c.internal.ensures.gives in
+    let n = c.in-Ok.messages in
+    let p = subst (λ (r : Result ℕ Refusal). Gives r (a.active + 1536) (Step.internal t a.services.now 5 a.clock a.row) t a.mem.now mid) c.in-Ok.is c.internal.ensures.gives in
     let len = length a.mem.now in
     let room : a.active + 1536 ≤ len = (let r = c.requires.3 in omega arith) in
     let kept = sent-kept t (a.active + 1536) len a.active a.count a.mem.now mid c.requires.2 (let f = c.requires.4 in omega arith) c.internal.ensures.frame in

@@ -1,4 +1,6 @@
 -- `stepping::root_turns` meets its contract. The loop: what is left of the turns, from the words and the messages as they stand, is the whole from the words at first. Assumes nothing.
+use Rattle.std.specs.Prelude.{Result}
+use Rattle.rules.specs.declared.Refusal.{Refusal}
 use Prim.Native.Nat.{ℕ, ◌≤◌}
 use mathlib.Core.Path.{refl, sym, subst, ◌∙◌}
 use native.Mathlib.Omega.{arith}
@@ -9,7 +11,6 @@ use Rattle.rules.specs.Step as Step
 use Rattle.rules.specs.Step.{levels}
 use Rattle.rules.specs.Depth.{Deep, parentless-deep}
 use Rattle.selection.specs.Selected.{sweep-bounds}
-use Rattle.memory.specs.declared.Put.{Put}
 use Rattle.lookup.specs.Inside.{table_in}
 use Rattle.lookup.specs.InsideLaws.{sizes-in, fine-in, in-parentless}
 use Rattle.views.proofs.Frames.{frame_then, frame-to}
@@ -46,13 +47,13 @@ next_parentless-requires c =
     c.requires.0.inside
 
 -- src/lib.rt:89:31
-pub shape_of-mem-in-Nothing : goal.shape_of-mem-in-Nothing
-shape_of-mem-in-Nothing c =
+pub shape_of-mem-in-None : goal.shape_of-mem-in-None
+shape_of-mem-in-None c =
     c.loop-from.invariant.1
 
 -- src/lib.rt:89:31
-pub returns-in-Nothing : goal.returns-in-Nothing
-returns-in-Nothing c =
+pub returns-in-None : goal.returns-in-None
+returns-in-None c =
     let a = c.args in
     let t = table_in a.state.now in
     let visit = Step.root_turn t a.services.now a.clock in
@@ -61,7 +62,7 @@ returns-in-Nothing c =
     let within : c.loop-from.from ≤ rows = omega (arith, c.loop-from.invariant.0, c.loop-from-test.true) in
     let here = c.next_at_zero-ripe.result in
     let g = pass-turns t (fine-in a.state.now c.requires.0.inside) a.services.now a.clock a.active a.active hi c.loop-from.count a.mem.now c.loop-from.mem c.loop-from.from here c.next_at_zero-ripe.ensures within c.loop-from.invariant.2 in
-    let m = adding-none t (messages_in a.active) 256 visit (is_root t) a.active hi a.mem.now 0 rows here c.loop-from.mem c.loop-from.count g (sym c.next_parentless.ensures ∙ c.in-Nothing.is) in
+    let m = adding-none t (messages_in a.active) 256 visit (is_root t) a.active hi a.mem.now 0 rows here c.loop-from.mem c.loop-from.count g (sym c.next_parentless.ensures ∙ c.in-None.is) in
     record { joins = m; frame = g.frame }
 
 -- src/lib.rt:91:23
@@ -74,8 +75,8 @@ root_turn-requires c =
     let within : c.loop-from.from ≤ rows = omega (arith, c.loop-from.invariant.0, c.loop-from-test.true) in
     let here = c.next_at_zero-ripe.result in
     let g = pass-turns t (fine-in a.state.now c.requires.0.inside) a.services.now a.clock a.active a.active hi c.loop-from.count a.mem.now c.loop-from.mem c.loop-from.from here c.next_at_zero-ripe.ensures within c.loop-from.invariant.2 in
-    let found = sym c.next_parentless.ensures ∙ c.in-At.is in
-    let row = c.in-At.row in
+    let found = sym c.next_parentless.ensures ∙ c.in-Some.is in
+    let row = c.in-Some.row in
     let bounds = sweep-bounds {S = ℕ} (λ k s. done s) (is_root t) here rows 0 row found in (
       record { scene = record { inside = c.requires.0.inside; ready = g.ready; time = c.requires.0.time }; in_table = bounds.1 },
       in-parentless a.state.now c.requires.0.inside row bounds.1 (subst T (sym bounds.2) tt) (Deep t levels) (parentless-deep t (fine-in a.state.now c.requires.0.inside)),
@@ -85,13 +86,13 @@ root_turn-requires c =
     )
 
 -- src/lib.rt:93:46
-pub shape_of-mem-in-Refused : goal.shape_of-mem-in-Refused
-shape_of-mem-in-Refused c =
+pub shape_of-mem-in-Err : goal.shape_of-mem-in-Err
+shape_of-mem-in-Err c =
     c.root_turn.auto.mem ∙ c.loop-from.invariant.1
 
 -- src/lib.rt:93:46
-pub returns-in-Refused : goal.returns-in-Refused
-returns-in-Refused c =
+pub returns-in-Err : goal.returns-in-Err
+returns-in-Err c =
     let a = c.args in
     let t = table_in a.state.now in
     let visit = Step.root_turn t a.services.now a.clock in
@@ -100,12 +101,12 @@ returns-in-Refused c =
     let within : c.loop-from.from ≤ rows = omega (arith, c.loop-from.invariant.0, c.loop-from-test.true) in
     let here = c.next_at_zero-ripe.result in
     let g = pass-turns t (fine-in a.state.now c.requires.0.inside) a.services.now a.clock a.active a.active hi c.loop-from.count a.mem.now c.loop-from.mem c.loop-from.from here c.next_at_zero-ripe.ensures within c.loop-from.invariant.2 in
-    let found = sym c.next_parentless.ensures ∙ c.in-At.is in
-    let row = c.in-At.row in
+    let found = sym c.next_parentless.ensures ∙ c.in-Some.is in
+    let row = c.in-Some.row in
     let after = c.root_turn.new.mem in
     let framed = frame-to t a.active (length c.loop-from.mem) hi c.loop-from.mem after c.loop-from.invariant.1 c.root_turn.ensures.frame in
-    let d = subst (λ (r : Put). Joined r (messages_in a.active) 256 c.loop-from.count (visit row) t c.loop-from.mem after) c.in-Refused.is c.root_turn.ensures.joins in
-    let s = adding-stops t (messages_in a.active) 256 visit (is_root t) a.active hi a.mem.now 0 rows here c.loop-from.mem c.loop-from.count g row c.in-Refused.refusal after found d in
+    let d = subst (λ (r : Result ℕ Refusal). Joined r (messages_in a.active) 256 c.loop-from.count (visit row) t c.loop-from.mem after) c.in-Err.is c.root_turn.ensures.joins in
+    let s = adding-stops t (messages_in a.active) 256 visit (is_root t) a.active hi a.mem.now 0 rows here c.loop-from.mem c.loop-from.count g row c.in-Err.refusal after found d in
     record { joins = s; frame = frame_then t a.active hi a.mem.now c.loop-from.mem after g.frame framed }
 
 -- src/lib.rt:95:24
@@ -115,8 +116,8 @@ overflow_add-from c =
     let t = table_in a.state.now in
     let rows = length t.rows in
     let here = c.next_at_zero-ripe.result in
-    let found = sym c.next_parentless.ensures ∙ c.in-At.is in
-    let row = c.in-At.row in
+    let found = sym c.next_parentless.ensures ∙ c.in-Some.is in
+    let row = c.in-Some.row in
     let bounds = sweep-bounds {S = ℕ} (λ k s. done s) (is_root t) here rows 0 row found in
     let few = sizes-in a.state.now c.requires.0.inside in
     omega (arith, bounds.1, few.0)
@@ -129,8 +130,8 @@ loop-from-smaller c =
     let rows = length t.rows in
     let within : c.loop-from.from ≤ rows = omega (arith, c.loop-from.invariant.0, c.loop-from-test.true) in
     let here = c.next_at_zero-ripe.result in
-    let found = sym c.next_parentless.ensures ∙ c.in-At.is in
-    let row = c.in-At.row in
+    let found = sym c.next_parentless.ensures ∙ c.in-Some.is in
+    let row = c.in-Some.row in
     let bounds = sweep-bounds {S = ℕ} (λ k s. done s) (is_root t) here rows 0 row found in
     let stop = stop-bounds (at_zero c.loop-from.mem) c.loop-from.from rows within in
     omega (arith, bounds.0, bounds.1, stop.0, c.next_at_zero-ripe.ensures, c.loop-from.invariant.0)
@@ -146,14 +147,14 @@ loop-from-preserved c =
     let within : c.loop-from.from ≤ rows = omega (arith, c.loop-from.invariant.0, c.loop-from-test.true) in
     let here = c.next_at_zero-ripe.result in
     let g = pass-turns t (fine-in a.state.now c.requires.0.inside) a.services.now a.clock a.active a.active hi c.loop-from.count a.mem.now c.loop-from.mem c.loop-from.from here c.next_at_zero-ripe.ensures within c.loop-from.invariant.2 in
-    let found = sym c.next_parentless.ensures ∙ c.in-At.is in
-    let row = c.in-At.row in
+    let found = sym c.next_parentless.ensures ∙ c.in-Some.is in
+    let row = c.in-Some.row in
     let after = c.root_turn.new.mem in
     let framed = frame-to t a.active (length c.loop-from.mem) hi c.loop-from.mem after c.loop-from.invariant.1 c.root_turn.ensures.frame in
-    let m = subst (λ (r : Put). Joined r (messages_in a.active) 256 c.loop-from.count (visit row) t c.loop-from.mem after) c.in-Out.is c.root_turn.ensures.joins in (
+    let m = subst (λ (r : Result ℕ Refusal). Joined r (messages_in a.active) 256 c.loop-from.count (visit row) t c.loop-from.mem after) c.in-Ok.is c.root_turn.ensures.joins in (
       c.loop-from.invariant.0,
       c.root_turn.auto.mem ∙ c.loop-from.invariant.1,
-      adding-on t (messages_in a.active) 256 visit (is_root t) a.active hi a.mem.now 0 rows here c.loop-from.mem c.loop-from.count g row c.in-Out.messages after found m framed,
+      adding-on t (messages_in a.active) 256 visit (is_root t) a.active hi a.mem.now 0 rows here c.loop-from.mem c.loop-from.count g row c.in-Ok.messages after found m framed,
     )
 
 -- src/lib.rt:78:1

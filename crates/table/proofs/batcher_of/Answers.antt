@@ -22,6 +22,6 @@ returns-in-Time c =
     let z = time-read _ _ (sym c.time_of_bits.ensures ∙ c.in-Time.is) in
     rw (z.1, port-fits _ c.if-input-gt65535.false, port-fits _ c.if-output-gt65535.false, le-leb _ _ c.if-size-lt1.false, le-leb _ _ c.if-size-gt4611686018427387904.false, z.0)
 
-pub returns-in-Bad : goal.returns-in-Bad
-returns-in-Bad c =
-    rw (port-fits _ c.if-input-gt65535.false, port-fits _ c.if-output-gt65535.false, le-leb _ _ c.if-size-lt1.false, le-leb _ _ c.if-size-gt4611686018427387904.false, bad-says _ (sym c.time_of_bits.ensures ∙ c.in-Bad.is))
+pub returns-in-None : goal.returns-in-None
+returns-in-None c =
+    rw (port-fits _ c.if-input-gt65535.false, port-fits _ c.if-output-gt65535.false, le-leb _ _ c.if-size-lt1.false, le-leb _ _ c.if-size-gt4611686018427387904.false, bad-says _ (sym c.time_of_bits.ensures ∙ c.in-None.is))

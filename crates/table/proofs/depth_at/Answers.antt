@@ -17,10 +17,10 @@ loop-at-init c =
     let o = parent-back (parent_in (row_of model_width a.models.now a.row)) c.parent_at-parent.ensures in
     (rw (← o) (omega arith), omega arith, omega arith)
 
-pub returns-in-Nobody : goal.returns-in-Nobody
-returns-in-Nobody c =
+pub returns-in-None : goal.returns-in-None
+returns-in-None c =
     let m = c.args.models.now in
-    let t = depth-top m c.loop-at.at c.in-Nobody.is in
+    let t = depth-top m c.loop-at.at c.in-None.is in
     omega arith
 
 pub overflow_add-depth : goal.overflow_add-depth
@@ -32,7 +32,7 @@ loop-at-smaller-then-id_at-id c = omega arith
 pub loop-at-preserved-then-id_at-id : goal.loop-at-preserved-then-id_at-id
 loop-at-preserved-then-id_at-id c =
     let m = c.args.models.now in
-    let t = depth-hit m c.in-Of.is c.loop-at.at c.loop-at-test.true c.id_at.ensures c.if-id_at-id.true c.parent_at-parent-then-id_at-id.ensures in
+    let t = depth-hit m c.in-Some.is c.loop-at.at c.loop-at-test.true c.id_at.ensures c.if-id_at-id.true c.parent_at-parent-then-id_at-id.ensures in
     (omega arith, omega arith, omega arith)
 
 pub loop-at-smaller : goal.loop-at-smaller
@@ -41,7 +41,7 @@ loop-at-smaller c = omega arith
 pub loop-at-preserved : goal.loop-at-preserved
 loop-at-preserved c =
     let m = c.args.models.now in
-    let t = depth-skip m c.in-Of.is c.loop-at.at c.loop-at-test.true c.id_at.ensures c.if-id_at-id.false in
+    let t = depth-skip m c.in-Some.is c.loop-at.at c.loop-at-test.true c.id_at.ensures c.if-id_at-id.false in
     (omega arith, omega arith, omega arith)
 
 pub returns : goal.returns

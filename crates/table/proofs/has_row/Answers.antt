@@ -4,12 +4,12 @@ use Rattle.words.specs.SearchLaws.{is_found}
 use Rattle.table.specs.Searched.{has-row}
 use Rattle.table.proofs.has_row.Goals as goal
 
-pub returns-in-At : goal.returns-in-At
-returns-in-At c =
+pub returns-in-Some : goal.returns-in-Some
+returns-in-Some c =
     let a = c.args in
-    sym (has-row a.models.now a.rows a.id a.at a.value c.requires.0 c.requires.1 c.next_row.ensures ∙ ap is_found c.in-At.is)
+    sym (has-row a.models.now a.rows a.id a.at a.value c.requires.0 c.requires.1 c.next_row.ensures ∙ ap is_found c.in-Some.is)
 
-pub returns-in-Nothing : goal.returns-in-Nothing
-returns-in-Nothing c =
+pub returns-in-None : goal.returns-in-None
+returns-in-None c =
     let a = c.args in
-    sym (has-row a.models.now a.rows a.id a.at a.value c.requires.0 c.requires.1 c.next_row.ensures ∙ ap is_found c.in-Nothing.is)
+    sym (has-row a.models.now a.rows a.id a.at a.value c.requires.0 c.requires.1 c.next_row.ensures ∙ ap is_found c.in-None.is)

@@ -21,22 +21,22 @@ returns-then-couplings-gt1536 c =
     let a = c.args in
     sym (large-couplings a.models.now a.connectors.now a.couplings.now c.if-models-gt640.false c.if-connectors-gt1024.false c.if-couplings-gt1536.true)
 
-pub returns-in-At : goal.returns-in-At
-returns-in-At c =
+pub returns-in-Some : goal.returns-in-Some
+returns-in-Some c =
     let by_parts : verdict_of (Intake.intake (lent c.args.models.now c.args.connectors.now c.args.couplings.now)) ≡ judged (first_bad_in Models c.args.models.now c.args.models.now) (first_bad_in Connectors c.args.models.now c.args.connectors.now) (first_bad_in Couplings c.args.models.now c.args.couplings.now) = judged-is c.args.models.now c.args.connectors.now c.args.couplings.now c.if-models-gt640.false c.if-connectors-gt1024.false c.if-couplings-gt1536.false in
-    sym (by_parts ∙ rw (sym c.first_bad.ensures ∙ c.in-At.is))
+    sym (by_parts ∙ rw (sym c.first_bad.ensures ∙ c.in-Some.is))
 
-pub returns-in-At-first_bad : goal.returns-in-At-first_bad
-returns-in-At-first_bad c =
+pub returns-in-Some-first_bad : goal.returns-in-Some-first_bad
+returns-in-Some-first_bad c =
     let by_parts : verdict_of (Intake.intake (lent c.args.models.now c.args.connectors.now c.args.couplings.now)) ≡ judged (first_bad_in Models c.args.models.now c.args.models.now) (first_bad_in Connectors c.args.models.now c.args.connectors.now) (first_bad_in Couplings c.args.models.now c.args.couplings.now) = judged-is c.args.models.now c.args.connectors.now c.args.couplings.now c.if-models-gt640.false c.if-connectors-gt1024.false c.if-couplings-gt1536.false in
-    sym (by_parts ∙ rw (sym c.first_bad.ensures ∙ c.in-Nothing.is, sym c.first_bad-2.ensures ∙ c.in-At-first_bad.is))
+    sym (by_parts ∙ rw (sym c.first_bad.ensures ∙ c.in-None.is, sym c.first_bad-2.ensures ∙ c.in-Some-first_bad.is))
 
-pub returns-in-At-first_bad-2 : goal.returns-in-At-first_bad-2
-returns-in-At-first_bad-2 c =
+pub returns-in-Some-first_bad-2 : goal.returns-in-Some-first_bad-2
+returns-in-Some-first_bad-2 c =
     let by_parts : verdict_of (Intake.intake (lent c.args.models.now c.args.connectors.now c.args.couplings.now)) ≡ judged (first_bad_in Models c.args.models.now c.args.models.now) (first_bad_in Connectors c.args.models.now c.args.connectors.now) (first_bad_in Couplings c.args.models.now c.args.couplings.now) = judged-is c.args.models.now c.args.connectors.now c.args.couplings.now c.if-models-gt640.false c.if-connectors-gt1024.false c.if-couplings-gt1536.false in
-    sym (by_parts ∙ rw (sym c.first_bad.ensures ∙ c.in-Nothing.is, sym c.first_bad-2.ensures ∙ c.in-Nothing-first_bad.is, sym c.first_bad-3.ensures ∙ c.in-At-first_bad-2.is))
+    sym (by_parts ∙ rw (sym c.first_bad.ensures ∙ c.in-None.is, sym c.first_bad-2.ensures ∙ c.in-None-first_bad.is, sym c.first_bad-3.ensures ∙ c.in-Some-first_bad-2.is))
 
 pub returns : goal.returns
 returns c =
     let by_parts : verdict_of (Intake.intake (lent c.args.models.now c.args.connectors.now c.args.couplings.now)) ≡ judged (first_bad_in Models c.args.models.now c.args.models.now) (first_bad_in Connectors c.args.models.now c.args.connectors.now) (first_bad_in Couplings c.args.models.now c.args.couplings.now) = judged-is c.args.models.now c.args.connectors.now c.args.couplings.now c.if-models-gt640.false c.if-connectors-gt1024.false c.if-couplings-gt1536.false in
-    sym (by_parts ∙ rw (sym c.first_bad.ensures ∙ c.in-Nothing.is, sym c.first_bad-2.ensures ∙ c.in-Nothing-first_bad.is, sym c.first_bad-3.ensures ∙ c.in-Nothing-first_bad-2.is))
+    sym (by_parts ∙ rw (sym c.first_bad.ensures ∙ c.in-None.is, sym c.first_bad-2.ensures ∙ c.in-None-first_bad.is, sym c.first_bad-3.ensures ∙ c.in-None-first_bad-2.is))

@@ -6,16 +6,16 @@ use Rattle.table.specs.Earlier.{coupled-id-is}
 use Rattle.table.specs.Readings.{parent-back}
 use Rattle.table.proofs.parent_fits.Goals as goal
 
-pub returns-in-Of : goal.returns-in-Of
+pub returns-in-Some : goal.returns-in-Some
 unfolding parent_joins
-returns-in-Of c =
+returns-in-Some c =
     let a = c.args in
-    let o = ap parent_in (sym c.requires.1) ∙ parent-back (parent_in a.cells.now) c.parent_in.ensures ∙ ap option_of c.in-Of.is in
+    let o = ap parent_in (sym c.requires.1) ∙ parent-back (parent_in a.cells.now) c.parent_in.ensures ∙ ap option_of c.in-Some.is in
     rw o (c.has_row.ensures ∙ sym (coupled-id-is a.models.now a.row _))
 
-pub returns-in-Nobody : goal.returns-in-Nobody
+pub returns-in-None : goal.returns-in-None
 unfolding parent_joins
-returns-in-Nobody c =
+returns-in-None c =
     let a = c.args in
-    let o = ap parent_in (sym c.requires.1) ∙ parent-back (parent_in a.cells.now) c.parent_in.ensures ∙ ap option_of c.in-Nobody.is in
+    let o = ap parent_in (sym c.requires.1) ∙ parent-back (parent_in a.cells.now) c.parent_in.ensures ∙ ap option_of c.in-None.is in
     rw o

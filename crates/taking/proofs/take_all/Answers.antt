@@ -1,4 +1,6 @@
 -- `taking::take_all` meets its contract. The loop: what is left of the models without parent, from the words as they stand, is the whole from the words at first; the messages' own words stay. Assumes nothing.
+use Rattle.std.specs.Prelude.{Result, ⊤}
+use Rattle.rules.specs.declared.Refusal.{Refusal}
 use mathlib.Core.Path.{sym, subst, ◌∙◌}
 use mathlib.Core.List.{List}
 use native.Mathlib.Omega.{arith}
@@ -6,7 +8,6 @@ use lib.ListN.{length}
 use Rattle.rules.specs.declared.Message.{Message}
 use Rattle.lookup.specs.Inside.{table_in}
 use Rattle.lookup.specs.InsideLaws.{sizes-in}
-use Rattle.memory.specs.declared.Answer.{Answer}
 use Rattle.views.specs.World.{Does}
 use Rattle.views.proofs.Frames.{frame_then}
 use Rattle.views.specs.Messages.{messages_in}
@@ -43,13 +44,13 @@ pub enum_told-1 : goal.enum_told-1
 enum_told-1 c = search rules
 
 -- src/lib.rt:68:31
-pub shape_of-mem-in-Nothing : goal.shape_of-mem-in-Nothing
-shape_of-mem-in-Nothing c =
+pub shape_of-mem-in-None : goal.shape_of-mem-in-None
+shape_of-mem-in-None c =
     c.loop-from.invariant.1.frame.long
 
 -- src/lib.rt:68:31
-pub returns-in-Nothing : goal.returns-in-Nothing
-returns-in-Nothing c =
+pub returns-in-None : goal.returns-in-None
+returns-in-None c =
     let a = c.args in
     let t = table_in a.state.now in
     let visits = takes_all t a.services.now a.clock (messages_in a.active a.count a.mem.now) in
@@ -57,7 +58,7 @@ returns-in-Nothing c =
     let before = c.loop-from.invariant.1 in
     let here = c.next_addressed-addressed.result in
     let g = pass-rows t a.services.now a.clock a.active a.count a.mem.now c.loop-from.mem c.requires.1 c.loop-from.from here c.next_addressed-addressed.ensures (omega (arith, c.loop-from.invariant.0, c.loop-from-test.true)) before in
-    record { does = going-none t visits (has_no_parent t) a.mem.now rows here c.loop-from.mem g (sym c.next_parentless.ensures ∙ c.in-Nothing.is); frame = g.frame }
+    record { does = going-none t visits (has_no_parent t) a.mem.now rows here c.loop-from.mem g (sym c.next_parentless.ensures ∙ c.in-None.is); frame = g.frame }
 
 -- src/lib.rt:69:23
 pub enum_known-row : goal.enum_known-row
@@ -71,8 +72,8 @@ take_for-requires c =
     let before = c.loop-from.invariant.1 in
     let here = c.next_addressed-addressed.result in
     let g = pass-rows t a.services.now a.clock a.active a.count a.mem.now c.loop-from.mem c.requires.1 c.loop-from.from here c.next_addressed-addressed.ensures (omega (arith, c.loop-from.invariant.0, c.loop-from-test.true)) before in
-    let found = sym c.next_parentless.ensures ∙ c.in-At.is in
-    let row = c.in-At.row in
+    let found = sym c.next_parentless.ensures ∙ c.in-Some.is in
+    let row = c.in-Some.row in
     let bounds = taker-bounds a.state.now c.requires.0.inside here row found in (
       record { scene = record { inside = c.requires.0.inside; ready = g.ready; time = c.requires.0.time }; in_table = bounds.1 },
       taker-deep a.state.now c.requires.0.inside here row found,
@@ -84,13 +85,13 @@ pub enum_known-refusal : goal.enum_known-refusal
 enum_known-refusal c = search rules
 
 -- src/lib.rt:72:49
-pub shape_of-mem-in-Refused : goal.shape_of-mem-in-Refused
-shape_of-mem-in-Refused c =
+pub shape_of-mem-in-Err : goal.shape_of-mem-in-Err
+shape_of-mem-in-Err c =
     c.take_for.auto.mem ∙ c.loop-from.invariant.1.frame.long
 
 -- src/lib.rt:72:49
-pub returns-in-Refused : goal.returns-in-Refused
-returns-in-Refused c =
+pub returns-in-Err : goal.returns-in-Err
+returns-in-Err c =
     let a = c.args in
     let t = table_in a.state.now in
     let visits = takes_all t a.services.now a.clock (messages_in a.active a.count a.mem.now) in
@@ -98,20 +99,20 @@ returns-in-Refused c =
     let before = c.loop-from.invariant.1 in
     let here = c.next_addressed-addressed.result in
     let g = pass-rows t a.services.now a.clock a.active a.count a.mem.now c.loop-from.mem c.requires.1 c.loop-from.from here c.next_addressed-addressed.ensures (omega (arith, c.loop-from.invariant.0, c.loop-from-test.true)) before in
-    let found = sym c.next_parentless.ensures ∙ c.in-At.is in
-    let row = c.in-At.row in
+    let found = sym c.next_parentless.ensures ∙ c.in-Some.is in
+    let row = c.in-Some.row in
     let after = c.take_for.new.mem in
     let one = subst (λ (ms : List Message). Does c.take_for.result (takes_all t a.services.now a.clock ms row) t c.loop-from.mem after) (messages-stay t a.active a.mem.now c.loop-from.mem c.requires.1 g.frame a.count) c.take_for.ensures.does in
-    let d = subst (λ (r : Answer). Does r (visits row) t c.loop-from.mem after) c.in-Refused.is one in
-    record { does = going-stops t visits (has_no_parent t) a.mem.now rows here c.loop-from.mem g row c.in-Refused.refusal after found d; frame = frame_then t 0 0 a.mem.now c.loop-from.mem after g.frame c.take_for.ensures.frame }
+    let d = subst (λ (r : Result ⊤ Refusal). Does r (visits row) t c.loop-from.mem after) c.in-Err.is one in
+    record { does = going-stops t visits (has_no_parent t) a.mem.now rows here c.loop-from.mem g row c.in-Err.refusal after found d; frame = frame_then t 0 0 a.mem.now c.loop-from.mem after g.frame c.take_for.ensures.frame }
 
 -- src/lib.rt:74:24
 pub overflow_add-from : goal.overflow_add-from
 overflow_add-from c =
     let a = c.args in
     let here = c.next_addressed-addressed.result in
-    let found = sym c.next_parentless.ensures ∙ c.in-At.is in
-    let row = c.in-At.row in
+    let found = sym c.next_parentless.ensures ∙ c.in-Some.is in
+    let row = c.in-Some.row in
     let bounds = taker-bounds a.state.now c.requires.0.inside here row found in
     let few = sizes-in a.state.now c.requires.0.inside in
     omega (arith, bounds.1, few.0)
@@ -124,8 +125,8 @@ loop-from-smaller c =
     let rows = length t.rows in
     let here = c.next_addressed-addressed.result in
     let stop = stop-bounds (is_addressed t a.active a.count c.loop-from.mem) c.loop-from.from rows (omega (arith, c.loop-from.invariant.0, c.loop-from-test.true)) in
-    let found = sym c.next_parentless.ensures ∙ c.in-At.is in
-    let row = c.in-At.row in
+    let found = sym c.next_parentless.ensures ∙ c.in-Some.is in
+    let row = c.in-Some.row in
     let bounds = taker-bounds a.state.now c.requires.0.inside here row found in
     omega (arith, bounds.0, bounds.1, stop.0, c.next_addressed-addressed.ensures, c.loop-from.invariant.0)
 
@@ -139,11 +140,11 @@ loop-from-preserved c =
     let before = c.loop-from.invariant.1 in
     let here = c.next_addressed-addressed.result in
     let g = pass-rows t a.services.now a.clock a.active a.count a.mem.now c.loop-from.mem c.requires.1 c.loop-from.from here c.next_addressed-addressed.ensures (omega (arith, c.loop-from.invariant.0, c.loop-from-test.true)) before in
-    let found = sym c.next_parentless.ensures ∙ c.in-At.is in
-    let row = c.in-At.row in
+    let found = sym c.next_parentless.ensures ∙ c.in-Some.is in
+    let row = c.in-Some.row in
     let after = c.take_for.new.mem in
     let one = subst (λ (ms : List Message). Does c.take_for.result (takes_all t a.services.now a.clock ms row) t c.loop-from.mem after) (messages-stay t a.active a.mem.now c.loop-from.mem c.requires.1 g.frame a.count) c.take_for.ensures.does in
-    let d = subst (λ (r : Answer). Does r (visits row) t c.loop-from.mem after) c.in-Done.is one in
+    let d = subst (λ (r : Result ⊤ Refusal). Does r (visits row) t c.loop-from.mem after) c.in-Ok.is one in
     (c.loop-from.invariant.0, going_on t visits (has_no_parent t) a.mem.now rows here c.loop-from.mem g row after found d c.take_for.ensures.frame)
 
 -- src/lib.rt:51:1

@@ -1,12 +1,12 @@
 -- `taking::take_for` meets its contract. The loop: what is left of the messages, from the words as they stand, is the whole from the words at first; the messages' own words stay. Assumes nothing.
+use Rattle.std.specs.Prelude.{Err, Ok, Result, tt, ⊤}
+use Rattle.rules.specs.declared.Refusal.{Refusal}
 use Prim.Native.Nat.{ℕ, ◌+◌}
 use mathlib.Core.Path.{refl, sym, subst, ◌∙◌}
 use native.Mathlib.Omega.{arith}
 use Rattle.rules.specs.declared.Message.{Message}
 use Rattle.words.specs.SearchLaws.{search-hit}
 use Rattle.lookup.specs.Inside.{table_in}
-use Rattle.memory.specs.declared.Answer.{Answer}
-use Rattle.memory.specs.declared.Answer.TheVariants.{Done, Refused}
 use Rattle.views.specs.World.{Does}
 use Rattle.views.proofs.Frames.{frame_then}
 use Rattle.sweeps.specs.Loops.{going_start, going_on, going-stops, going_end}
@@ -54,21 +54,21 @@ pub enum_known-refusal : goal.enum_known-refusal
 enum_known-refusal c = search rules
 
 -- src/lib.rt:100:41
-pub shape_of-mem-in-Refused : goal.shape_of-mem-in-Refused
-shape_of-mem-in-Refused c =
+pub shape_of-mem-in-Err : goal.shape_of-mem-in-Err
+shape_of-mem-in-Err c =
     c.take_one.auto.mem ∙ c.loop-k.invariant.frame.long
 
 -- src/lib.rt:100:41
-pub returns-in-Refused : goal.returns-in-Refused
-returns-in-Refused c =
+pub returns-in-Err : goal.returns-in-Err
+returns-in-Err c =
     let a = c.args in
     let t = table_in a.state.now in
     let g = c.loop-k.invariant in
     let after = c.take_one.new.mem in
     let one = subst (λ (m : Message). Does c.take_one.result (takes_one t a.services.now a.clock a.row m) t c.loop-k.mem after) (message-stays t a.active a.mem.now c.loop-k.mem c.requires.2.past g.frame c.loop-k.k) c.take_one.ensures.does in
-    let d = subst (λ (r : Answer). Does r (takes_at t a.services.now a.clock a.row a.active a.mem.now c.loop-k.k) t c.loop-k.mem after) c.in-Refused.is one in
-    let s = going-stops t (takes_at t a.services.now a.clock a.row a.active a.mem.now) always a.mem.now a.count c.loop-k.k c.loop-k.mem g c.loop-k.k c.in-Refused.refusal after (search-hit always c.loop-k.k a.count c.loop-k-test.true refl) d in
-    record { does = one_by_one t a.services.now a.clock a.row a.active a.count a.mem.now after (Refused c.in-Refused.refusal) s; frame = frame_then t 0 0 a.mem.now c.loop-k.mem after g.frame c.take_one.ensures.frame }
+    let d = subst (λ (r : Result ⊤ Refusal). Does r (takes_at t a.services.now a.clock a.row a.active a.mem.now c.loop-k.k) t c.loop-k.mem after) c.in-Err.is one in
+    let s = going-stops t (takes_at t a.services.now a.clock a.row a.active a.mem.now) always a.mem.now a.count c.loop-k.k c.loop-k.mem g c.loop-k.k c.in-Err.refusal after (search-hit always c.loop-k.k a.count c.loop-k-test.true refl) d in
+    record { does = one_by_one t a.services.now a.clock a.row a.active a.count a.mem.now after (Err c.in-Err.refusal) s; frame = frame_then t 0 0 a.mem.now c.loop-k.mem after g.frame c.take_one.ensures.frame }
 
 -- src/lib.rt:102:35
 pub overflow_add-k : goal.overflow_add-k
@@ -97,7 +97,7 @@ loop-k-preserved c =
     let g = c.loop-k.invariant in
     let after = c.take_one.new.mem in
     let one = subst (λ (m : Message). Does c.take_one.result (takes_one t a.services.now a.clock a.row m) t c.loop-k.mem after) (message-stays t a.active a.mem.now c.loop-k.mem c.requires.2.past g.frame c.loop-k.k) c.take_one.ensures.does in
-    let d = subst (λ (r : Answer). Does r (takes_at t a.services.now a.clock a.row a.active a.mem.now c.loop-k.k) t c.loop-k.mem after) c.in-Done.is one in
+    let d = subst (λ (r : Result ⊤ Refusal). Does r (takes_at t a.services.now a.clock a.row a.active a.mem.now c.loop-k.k) t c.loop-k.mem after) c.in-Ok.is one in
     subst (λ (k : ℕ). Along t a.services.now a.clock a.row a.active a.count a.mem.now after k) (sym c.next_for-k-in-loop-k.ensures)
     (pass-others t a.services.now a.clock a.row a.active a.count a.mem.now after c.requires.2.past c.id_of-id.result (c.loop-k.k + 1) c.id_of-id.ensures (omega (arith, c.loop-k-test.true))
     (going_on t (takes_at t a.services.now a.clock a.row a.active a.mem.now) always a.mem.now a.count c.loop-k.k c.loop-k.mem g c.loop-k.k after (search-hit always c.loop-k.k a.count c.loop-k-test.true refl) d c.take_one.ensures.frame))
@@ -114,4 +114,4 @@ returns c =
     let t = table_in a.state.now in
     let g = c.loop-k.invariant in
     let m = going_end t (takes_at t a.services.now a.clock a.row a.active a.mem.now) always a.mem.now a.count c.loop-k.k c.loop-k.mem g c.loop-k-test.false in
-    record { does = one_by_one t a.services.now a.clock a.row a.active a.count a.mem.now c.loop-k.mem Done m; frame = g.frame }
+    record { does = one_by_one t a.services.now a.clock a.row a.active a.count a.mem.now c.loop-k.mem (Ok tt) m; frame = g.frame }

@@ -23,46 +23,46 @@ loop-from-init c =
 pub next_for-requires : goal.next_for-requires
 next_for-requires c = (all_there c.loop-from.invariant).0
 
-pub shape_of-mem-in-Nothing : goal.shape_of-mem-in-Nothing
-shape_of-mem-in-Nothing c = c.loop-from.invariant.going.frame.long
+pub shape_of-mem-in-None : goal.shape_of-mem-in-None
+shape_of-mem-in-None c = c.loop-from.invariant.going.frame.long
 
-pub returns-in-Nothing : goal.returns-in-Nothing
-returns-in-Nothing c = let all = deliver-none c.loop-from.invariant c.next_for.ensures c.in-Nothing.is in record { does = all.0; frame = all.1 }
+pub returns-in-None : goal.returns-in-None
+returns-in-None c = let all = deliver-none c.loop-from.invariant c.next_for.ensures c.in-None.is in record { does = all.0; frame = all.1 }
 
 pub overflow_add-word : goal.overflow_add-word
 overflow_add-word c =
-    omega (arith, place-bounds c.loop-from.invariant c.next_for.ensures c.in-At.is)
+    omega (arith, place-bounds c.loop-from.invariant c.next_for.ensures c.in-Some.is)
 
 pub offset_bounds-mem-begin : goal.offset_bounds-mem-begin
 offset_bounds-mem-begin c =
-    omega (arith, place-bounds c.loop-from.invariant c.next_for.ensures c.in-At.is)
+    omega (arith, place-bounds c.loop-from.invariant c.next_for.ensures c.in-Some.is)
 
 pub bounds-mem-begin : goal.bounds-mem-begin
 bounds-mem-begin c =
-    omega (arith, place-bounds c.loop-from.invariant c.next_for.ensures c.in-At.is)
+    omega (arith, place-bounds c.loop-from.invariant c.next_for.ensures c.in-Some.is)
 
 pub hand_over-requires : goal.hand_over-requires
 hand_over-requires c =
     may-hand c.loop-from.invariant
 
-pub shape_of-mem-in-Refused : goal.shape_of-mem-in-Refused
-shape_of-mem-in-Refused c =
+pub shape_of-mem-in-Err : goal.shape_of-mem-in-Err
+shape_of-mem-in-Err c =
     c.hand_over.auto.mem ∙ c.loop-from.invariant.going.frame.long
 
-pub returns-in-Refused : goal.returns-in-Refused
-returns-in-Refused c = let all = deliver-stops c.loop-from.invariant c.next_for.ensures c.in-At.is c.hand_over.new.mem c.hand_over.result c.hand_over.ensures.does c.hand_over.ensures.frame c.in-Refused.is in record { does = all.0; frame = all.1 }
+pub returns-in-Err : goal.returns-in-Err
+returns-in-Err c = let all = deliver-stops c.loop-from.invariant c.next_for.ensures c.in-Some.is c.hand_over.new.mem c.hand_over.result c.hand_over.ensures.does c.hand_over.ensures.frame c.in-Err.is in record { does = all.0; frame = all.1 }
 
 pub overflow_add-from : goal.overflow_add-from
 overflow_add-from c =
-    omega (arith, place-bounds c.loop-from.invariant c.next_for.ensures c.in-At.is)
+    omega (arith, place-bounds c.loop-from.invariant c.next_for.ensures c.in-Some.is)
 
 pub loop-from-smaller : goal.loop-from-smaller
 loop-from-smaller c =
-    omega (arith, place-bounds c.loop-from.invariant c.next_for.ensures c.in-At.is)
+    omega (arith, place-bounds c.loop-from.invariant c.next_for.ensures c.in-Some.is)
 
 pub loop-from-preserved : goal.loop-from-preserved
 loop-from-preserved c =
-    deliver-on c.loop-from.invariant c.next_for.ensures c.in-At.is c.hand_over.new.mem c.hand_over.result c.hand_over.ensures.does c.hand_over.ensures.frame c.in-Done.is
+    deliver-on c.loop-from.invariant c.next_for.ensures c.in-Some.is c.hand_over.new.mem c.hand_over.result c.hand_over.ensures.does c.hand_over.ensures.frame c.in-Ok.is
 
 pub shape_of-mem : goal.shape_of-mem
 shape_of-mem c = c.loop-from.invariant.going.frame.long

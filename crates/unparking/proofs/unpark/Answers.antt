@@ -21,34 +21,34 @@ pub next_component-requires : goal.next_component-requires
 next_component-requires c =
     c.requires.0.scene.inside
 
-pub shape_of-mem-in-Nothing : goal.shape_of-mem-in-Nothing
-shape_of-mem-in-Nothing c = c.loop-from.invariant.going.frame.long
+pub shape_of-mem-in-None : goal.shape_of-mem-in-None
+shape_of-mem-in-None c = c.loop-from.invariant.going.frame.long
 
-pub returns-in-Nothing : goal.returns-in-Nothing
-returns-in-Nothing c = let all = unpark-none c.loop-from.invariant c.next_component.ensures c.in-Nothing.is in record { does = all.0; frame = all.1 }
+pub returns-in-None : goal.returns-in-None
+returns-in-None c = let all = unpark-none c.loop-from.invariant c.next_component.ensures c.in-None.is in record { does = all.0; frame = all.1 }
 
 pub deliver-requires : goal.deliver-requires
 deliver-requires c =
-    may-deliver c.loop-from.invariant c.next_component.ensures c.in-At.is
+    may-deliver c.loop-from.invariant c.next_component.ensures c.in-Some.is
 
-pub shape_of-mem-in-Refused : goal.shape_of-mem-in-Refused
-shape_of-mem-in-Refused c =
+pub shape_of-mem-in-Err : goal.shape_of-mem-in-Err
+shape_of-mem-in-Err c =
     c.deliver.auto.mem ∙ c.loop-from.invariant.going.frame.long
 
-pub returns-in-Refused : goal.returns-in-Refused
-returns-in-Refused c = let all = unpark-stops c.loop-from.invariant c.next_component.ensures c.in-At.is c.deliver.new.mem c.deliver.result c.deliver.ensures.does c.deliver.ensures.frame c.in-Refused.is in record { does = all.0; frame = all.1 }
+pub returns-in-Err : goal.returns-in-Err
+returns-in-Err c = let all = unpark-stops c.loop-from.invariant c.next_component.ensures c.in-Some.is c.deliver.new.mem c.deliver.result c.deliver.ensures.does c.deliver.ensures.frame c.in-Err.is in record { does = all.0; frame = all.1 }
 
 pub overflow_add-from : goal.overflow_add-from
 overflow_add-from c =
-    omega (arith, component-bounds c.loop-from.invariant c.next_component.ensures c.in-At.is)
+    omega (arith, component-bounds c.loop-from.invariant c.next_component.ensures c.in-Some.is)
 
 pub loop-from-smaller : goal.loop-from-smaller
 loop-from-smaller c =
-    omega (arith, component-bounds c.loop-from.invariant c.next_component.ensures c.in-At.is)
+    omega (arith, component-bounds c.loop-from.invariant c.next_component.ensures c.in-Some.is)
 
 pub loop-from-preserved : goal.loop-from-preserved
 loop-from-preserved c =
-    unpark-on c.loop-from.invariant c.next_component.ensures c.in-At.is c.deliver.new.mem c.deliver.result c.deliver.ensures.does c.deliver.ensures.frame c.in-Done.is
+    unpark-on c.loop-from.invariant c.next_component.ensures c.in-Some.is c.deliver.new.mem c.deliver.result c.deliver.ensures.does c.deliver.ensures.frame c.in-Ok.is
 
 pub shape_of-mem : goal.shape_of-mem
 shape_of-mem c = c.loop-from.invariant.going.frame.long

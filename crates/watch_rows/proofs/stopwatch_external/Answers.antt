@@ -6,20 +6,20 @@ use Rattle.watch_rows.specs.WatchLaws.{refused-in-place, taken-in-place}
 use borrow.Author.Rules.{rules}
 use Rattle.watch_rows.proofs.stopwatch_external.Goals as goal
 
-pub returns-in-Refused : goal.returns-in-Refused
-returns-in-Refused c =
+pub returns-in-Err : goal.returns-in-Err
+returns-in-Err c =
     let a = c.args in
     let m = a.mem.now in
     let low : a.content < 2 ^ 32 = search rules in
     let all = refused-in-place a.model a.clock a.port a.content (begin_in m a.row) m a.row c.requires.0 c.requires.1 low
     c.take_in_place-taken.result c.take_in_place-taken.new.mem c.take_in_place-taken.ensures.answers c.take_in_place-taken.ensures.lays
-    _ (sym c.answer_of-answer.ensures ∙ c.in-Refused.is) in record { takes = all.0; owns = all.1 }
+    _ (sym c.answer_of-answer.ensures ∙ c.in-Err.is) in record { takes = all.0; owns = all.1 }
 
-pub returns-in-Done : goal.returns-in-Done
-returns-in-Done c =
+pub returns-in-Ok : goal.returns-in-Ok
+returns-in-Ok c =
     let a = c.args in
     let m = a.mem.now in
     let low : a.content < 2 ^ 32 = search rules in
     let all = taken-in-place a.model a.clock a.port a.content (begin_in m a.row) m a.row c.requires.0 c.requires.1 low
     c.take_in_place-taken.result c.take_in_place-taken.new.mem c.take_in_place-taken.ensures.answers c.take_in_place-taken.ensures.lays
-    c.store_stopwatch.new.mem (sym c.answer_of-answer.ensures ∙ c.in-Done.is) c.store_stopwatch.ensures in record { takes = all.0; owns = all.1 }
+    c.store_stopwatch.new.mem (sym c.answer_of-answer.ensures ∙ c.in-Ok.is) c.store_stopwatch.ensures in record { takes = all.0; owns = all.1 }
