@@ -1,7 +1,6 @@
 -- The laws of what a stored state is asked: the changing part as it is lent, a row's status by the kind that a reader names, and the search for a model without parent by its id. Assumes nothing.
-use Rattle.std.specs.Prelude.{ℕ, suc, ◌+◌, ◌-◌, ◌≤◌, ◌<◌, ◌≡◌, refl, Bool, List, [], ◌∷◌, length, take, drop, T, eqb, Float, None, Some}
+use Rattle.std.specs.Prelude.{ℕ, suc, ◌+◌, ◌-◌, ◌≤◌, ◌<◌, ◌≡◌, refl, Bool, List, [], ◌∷◌, length, take, drop, T, eqb, Float, None, Some, Option}
 use Rattle.std.proofs.Common.{sym, ap, ◌∙◌, arith, le_of_eq, add-one, eq-eqb, ne_eqb, length-drop, take_all, length-take-le, leb→le}
-use Rattle.std.proofs.Math.Option.{Option, none, some}
 use Rattle.std.proofs.Math.Nat.{sub-zero}
 use Rattle.std.proofs.lemmas.List.{length-map}
 use Rattle.std.specs.Float.Ieee.Bits.{is_true}
@@ -50,8 +49,8 @@ status_named kind.Coupled b mem i = status.Parked (held_in mem i)
 status_named kind.Broken b mem i = status.NoMean
 
 mean-said : (m : Option Float) → mean_told (some_mean m) ≡ status_told (Calls.Mean m)
-mean-said none = refl
-mean-said (some x) = refl
+mean-said None = refl
+mean-said (Some x) = refl
 
 status-named : (k : Table.Kind) (b : ℕ) (mem : List ℕ) (i : ℕ) → Row k b mem i → status_named (named k) b mem i ≡ status_told (status_of (state_in k b mem i))
 unfolding mean_in

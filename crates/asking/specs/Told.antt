@@ -1,5 +1,5 @@
 -- A status as it is answered. Definitions only. Assumes nothing.
-use Rattle.std.proofs.Math.Option.{none, some}
+use Rattle.std.specs.Prelude.{None, Some}
 use Rattle.rules.specs.Base.{Outcome, refused, done}
 use Rattle.rules.specs.Calls as Calls
 use Rattle.marks.specs.declared.MeanOf.{MeanOf}
@@ -11,8 +11,8 @@ use Rattle.asking.specs.declared.Status.TheVariants as status
 abbrev pub status_told : Calls.Status → Status
 status_told (Calls.OfProcessor phase) = status.Processor phase
 status_told (Calls.OfBatcher phase) = status.Batcher phase
-status_told (Calls.Mean none) = status.NoMean
-status_told (Calls.Mean (some mean)) = status.Mean mean
+status_told (Calls.Mean None) = status.NoMean
+status_told (Calls.Mean (Some mean)) = status.Mean mean
 status_told (Calls.ParkedCount count) = status.Parked count
 
 abbrev pub status_answered : Outcome Calls.Status → Status

@@ -1,7 +1,6 @@
 -- Intake's verdict does not hang on the capacity of a row that omits it, so the migration leaves it as it was. Assumes nothing.
-use Rattle.std.specs.Prelude.{ℕ, suc, ◌+◌, ◌≤◌, ◌≡◌, refl, Bool, true, false, not, ◌&&◌, List, [], ◌∷◌, map, length, leb, ltb, eqb, if◌then◌else◌}
+use Rattle.std.specs.Prelude.{ℕ, suc, ◌+◌, ◌≤◌, ◌≡◌, refl, Bool, true, false, not, ◌&&◌, List, [], ◌∷◌, map, length, leb, ltb, eqb, if◌then◌else◌, Option, None, Some}
 use Rattle.std.proofs.Common.{sym, ap, ◌∙◌, subst, inl, inr, arith, eq-eqb, ne_eqb}
-use Rattle.std.proofs.Math.Option.{Option, none, some}
 use Rattle.rules.specs.declared.Processor.{Processor}
 use Rattle.rules.specs.Sizes.{is_id, is_port, deepest, most_rows, most_connectors, most_couplings, omitted_capacity}
 use Rattle.rules.specs.Base.{every, some_of, hold}
@@ -37,8 +36,8 @@ pub data Alike : List Row → List Row → Type 0 where
 
 pub data Lines : List (Option Row) → List (Option Row) → Type 0 where
   nothing : Lines [] []
-  broken : {rs ss : List (Option Row)} → Lines rs ss → Lines (none ∷ rs) (none ∷ ss)
-  read : {r s : Row} {rs ss : List (Option Row)} → Same r s → Lines rs ss → Lines (some r ∷ rs) (some s ∷ ss)
+  broken : {rs ss : List (Option Row)} → Lines rs ss → Lines (None ∷ rs) (None ∷ ss)
+  read : {r s : Row} {rs ss : List (Option Row)} → Same r s → Lines rs ss → Lines (Some r ∷ rs) (Some s ∷ ss)
 
 some_alike : (f : Row → Bool) → ((r s : Row) → Same r s → f r ≡ f s) → (rs ss : List Row) → Alike rs ss → some_of f rs ≡ some_of f ss
 some_alike f e rs ss empty = refl
@@ -54,15 +53,15 @@ new-alike : (rs ss : List Row) → Alike rs ss → (id : ℕ) → is_new rs id �
 new-alike rs ss t id = ap not (some_alike (λ (r : Row). eqb r.id id) (λ r s h. (λ i. eqb (h.id i) id)) rs ss t)
 
 parent-alike : (rs ss : List Row) → Alike rs ss → (parent : Option ℕ) → parent_fits rs parent ≡ parent_fits ss parent
-parent-alike rs ss t none = refl
-parent-alike rs ss t (some parent) = coupled-alike rs ss t parent
+parent-alike rs ss t None = refl
+parent-alike rs ss t (Some parent) = coupled-alike rs ss t parent
 
 depth-alike : (rs ss : List Row) → Alike rs ss → (parent : Option ℕ) → depth_of rs parent ≡ depth_of ss parent
 depth-alike rs ss empty parent = refl
-depth-alike (r ∷ rs) (s ∷ ss) (next h t) none = refl
-depth-alike (r ∷ rs) (s ∷ ss) (next h t) (some parent) =
+depth-alike (r ∷ rs) (s ∷ ss) (next h t) None = refl
+depth-alike (r ∷ rs) (s ∷ ss) (next h t) (Some parent) =
     let above : depth_of rs r.parent ≡ depth_of ss s.parent = depth-alike rs ss t r.parent ∙ ap (depth_of ss) h.parent in
-    λ i. if eqb (h.id i) parent then above i + 1 else depth-alike rs ss t (some parent) i
+    λ i. if eqb (h.id i) parent then above i + 1 else depth-alike rs ss t (Some parent) i
 
 -- ---- a row is judged alike
 row-alike : (rs ss : List Row) → Alike rs ss → (r s : Row) → Same r s → hold (row_rules rs r) ≡ hold (row_rules ss s)
@@ -74,15 +73,15 @@ row-alike rs ss t r s h =
 
 rows_alike : (k : ℕ) (es fs : List Row) → Alike es fs → (rs ss : List (Option Row)) → Lines rs ss → first_bad_row k es rs ≡ first_bad_row k fs ss
 rows_alike k es fs t rs ss nothing = refl
-rows_alike k es fs t (none ∷ rs) (none ∷ ss) (broken l) = refl
-rows_alike k es fs t (some r ∷ rs) (some s ∷ ss) (read h l) =
-    λ i. if row-alike es fs t r s h i then rows_alike (suc k) (r ∷ es) (s ∷ fs) (next h t) rs ss l i else some k
+rows_alike k es fs t (None ∷ rs) (None ∷ ss) (broken l) = refl
+rows_alike k es fs t (Some r ∷ rs) (Some s ∷ ss) (read h l) =
+    λ i. if row-alike es fs t r s h i then rows_alike (suc k) (r ∷ es) (s ∷ fs) (next h t) rs ss l i else Some k
 
 -- ---- and so is a coupling
 pub whole-alike : (rs ss : List (Option Row)) → Lines rs ss → Alike (whole rs) (whole ss)
 whole-alike rs ss nothing = empty
-whole-alike (none ∷ rs) (none ∷ ss) (broken l) = whole-alike rs ss l
-whole-alike (some r ∷ rs) (some s ∷ ss) (read h l) = next h (whole-alike rs ss l)
+whole-alike (None ∷ rs) (None ∷ ss) (broken l) = whole-alike rs ss l
+whole-alike (Some r ∷ rs) (Some s ∷ ss) (read h l) = next h (whole-alike rs ss l)
 
 coupling-alike : (rs ss : List Row) → Alike rs ss → (c : Coupling) → coupling_rules rs c ≡ coupling_rules ss c
 coupling-alike rs ss t (external_input owner sp target tp) =
@@ -93,16 +92,16 @@ coupling-alike rs ss t (internal_coupling owner source sp target tp) =
 
 as_many : (rs ss : List (Option Row)) → Lines rs ss → length rs ≡ length ss
 as_many rs ss nothing = refl
-as_many (none ∷ rs) (none ∷ ss) (broken l) = ap suc (as_many rs ss l)
-as_many (some r ∷ rs) (some s ∷ ss) (read h l) = ap suc (as_many rs ss l)
+as_many (None ∷ rs) (None ∷ ss) (broken l) = ap suc (as_many rs ss l)
+as_many (Some r ∷ rs) (Some s ∷ ss) (read h l) = ap suc (as_many rs ss l)
 
 -- ---- the verdict, by what was found
 abbrev found : Bool → Option ℕ → Option ℕ → Option ℕ → Verdict
 found false x y z = TooLarge
-found true (some k) y z = BadRow k
-found true none (some k) z = BadConnector k
-found true none none (some k) = BadCoupling k
-found true none none none = Passed
+found true (Some k) y z = BadRow k
+found true None (Some k) z = BadConnector k
+found true None None (Some k) = BadCoupling k
+found true None None None = Passed
 
 judged-by : (p : Posted) → verdict_of (Intake.intake p) ≡ found (hold (size_rules p)) (first_bad_row 0 [] p.rows) (first_bad connector_rules 0 p.connectors) (first_bad (coupling_rules (whole p.rows)) 0 p.couplings)
 unfolding Intake.intake
@@ -110,20 +109,20 @@ judged-by p = by (hold (size_rules p)) (first_bad_row 0 [] p.rows) (first_bad co
   where
     by : (b : Bool) (x y z : Option ℕ)
         → verdict_of (if b then elim x [
-          | some row ↦ Intake.bad_row row
-          | none ↦ elim y [
-            | some row ↦ Intake.bad_connector row
-            | none ↦ elim z [
-              | some row ↦ Intake.bad_coupling row
-              | none ↦ Intake.passed (record { rows = whole p.rows; connectors = whole p.connectors; couplings = whole p.couplings })
+          | Some row ↦ Intake.bad_row row
+          | None ↦ elim y [
+            | Some row ↦ Intake.bad_connector row
+            | None ↦ elim z [
+              | Some row ↦ Intake.bad_coupling row
+              | None ↦ Intake.passed (record { rows = whole p.rows; connectors = whole p.connectors; couplings = whole p.couplings })
             ]
           ]
         ] else Intake.too_large) ≡ found b x y z
     by false x y z = refl
-    by true (some k) y z = refl
-    by true none (some k) z = refl
-    by true none none (some k) = refl
-    by true none none none = refl
+    by true (Some k) y z = refl
+    by true None (Some k) z = refl
+    by true None None (Some k) = refl
+    by true None None None = refl
 
 pub verdict-alike : (p q : Posted) → Lines p.rows q.rows → p.connectors ≡ q.connectors → p.couplings ≡ q.couplings → verdict_of (Intake.intake p) ≡ verdict_of (Intake.intake q)
 verdict-alike p q l e f =
@@ -149,8 +148,8 @@ capacities-same row false =
     record { id = refl; parent = refl; kind = wider _ _ more; keeps = refl }
 
 self : (o : Option Row) (rs ss : List (Option Row)) → Lines rs ss → Lines (o ∷ rs) (o ∷ ss)
-self none rs ss l = broken l
-self (some r) rs ss l = read (same_row r) l
+self None rs ss l = broken l
+self (Some r) rs ss l = read (same_row r) l
 
 one_line : (row : List ℕ) (rs ss : List (Option Row)) → Lines rs ss → Lines (model_row row ∷ rs) (old_model_row row ∷ ss)
 one_line row rs ss l = elim (either (same (cell row 1) 1)) [
@@ -160,7 +159,7 @@ one_line row rs ss l = elim (either (same (cell row 1) 1)) [
       subst (λ (o : Option Row). Lines (model_row row ∷ rs) (o ∷ ss)) e (self (model_row row) rs ss l)
 ]
   where
-    fits : (b : Bool) → Lines ((if b then some (a_processor row (capacity_in row)) else none) ∷ rs) ((if b then some (a_processor row (old_capacity_in row)) else none) ∷ ss)
+    fits : (b : Bool) → Lines ((if b then Some (a_processor row (capacity_in row)) else None) ∷ rs) ((if b then Some (a_processor row (old_capacity_in row)) else None) ∷ ss)
     fits true = read (capacities-same row (is_given 2 row)) l
     fits false = broken l
 

@@ -1,9 +1,8 @@
 -- The migration's promises, for every slice of words: what it writes is read as what was there was read before A7, no row omits the field then, and no other word moves. Assumes nothing.
-use Rattle.std.specs.Prelude.{ℕ, zero, suc, ◌+◌, ◌*◌, ◌/◌, ◌%◌, ◌≤◌, ◌<◌, ◌≡◌, refl, Bool, true, false, not, ◌&&◌, List, [], ◌∷◌, map, ltb, eqb, length, set, get_or, take, drop, if◌then◌else◌}
+use Rattle.std.specs.Prelude.{ℕ, zero, suc, ◌+◌, ◌*◌, ◌/◌, ◌%◌, ◌≤◌, ◌<◌, ◌≡◌, refl, Bool, true, false, not, ◌&&◌, List, [], ◌∷◌, map, ltb, eqb, length, set, get_or, take, drop, if◌then◌else◌, Option, None, Some}
 use Rattle.std.proofs.Common.{sym, ap, ◌∙◌, inl, inr, arith, eq-eqb, ne_eqb, lt-ltb, length-append, length-drop, length-take, take-append-drop, drop_of_length-le, take_all, take_at, drop_at, drop-drop, length-take-le, lt-length-set, get_or-set_same, get_or-set_other}
 use Rattle.std.proofs.lemmas.Bool.{false≢true}
 use Rattle.std.proofs.lemmas.Simd.{map-map}
-use Rattle.std.proofs.Math.Option.{Option, none, some}
 use Rattle.std.proofs.Math.Decide.{dec_le}
 use Rattle.rules.specs.Sizes.{is_port, omitted_capacity}
 use Rattle.rules.specs.Base.{every, hold, those}
@@ -34,8 +33,8 @@ rest-written words = elim (dec_le 10 (length words)) [
   | yes whole ↦ ap (drop 10) (written_next words) ∙ drop_at (row_written_out (take 10 words)) (written_out (drop 10 words)) 10 (long-row words whole)
   | no short ↦
       let few : length words < 10 = omega arith in
-      let none : drop 10 words ≡ [] = drop_of_length-le words {i = 10} (omega arith) in
-      rw (written-short words few, none, written_none)
+      let None : drop 10 words ≡ [] = drop_of_length-le words {i = 10} (omega arith) in
+      rw (written-short words few, None, written_none)
 ]
 
 pub same_length : (words : List ℕ) → length (written_out words) ≡ length words
@@ -86,7 +85,7 @@ rows_written words = go (length words) words (omega arith)
 -- ---- "the new reading of what it wrote is the old reading of what was there"
 -- a row that does not omit the field
 unlike : {A : Type 0} (made : ℕ → A) (long few ports given : Bool) (said now old : ℕ) → hold (long ∷ true ∷ few ∷ not given ∷ []) ≡ false
-    → (if hold (long ∷ few ∷ ports ∷ []) then some (made (if given then said else now)) else none) ≡ (if hold (long ∷ few ∷ ports ∷ []) then some (made (if given then said else old)) else none)
+    → (if hold (long ∷ few ∷ ports ∷ []) then Some (made (if given then said else now)) else None) ≡ (if hold (long ∷ few ∷ ports ∷ []) then Some (made (if given then said else old)) else None)
 unlike made false few ports given said now old e = refl
 unlike made true false ports given said now old e = refl
 unlike made true true ports true said now old e = refl
@@ -177,7 +176,7 @@ none-omits models = ap (λ (rows : List (List ℕ)). length (those omits_capacit
     go (row ∷ rows) = rw (row-says row) (go rows)
 
 -- a Processor's row that can be read says its capacity
-pub row-says-capacity : (models : List ℕ) (k : ℕ) (r : Row) → model_row (row_of model_width (written_out models) k) ≡ some r
+pub row-says-capacity : (models : List ℕ) (k : ℕ) (r : Row) → model_row (row_of model_width (written_out models) k) ≡ Some r
     → cell (row_of model_width (written_out models) k) 1 ≡ 1 → is_given 2 (row_of model_width (written_out models) k) ≡ true
 row-says-capacity models k r e kind = says (eqb (length row) 10) (ltb (cell row 2) 8) (is_given 2 row) refl refl refl
   where
@@ -186,22 +185,22 @@ row-says-capacity models k r e kind = says (eqb (length row) 10) (ltb (cell row 
 
     says : (long few given : Bool) → eqb (length row) 10 ≡ long → ltb (cell row 2) 8 ≡ few → is_given 2 row ≡ given → given ≡ true
     says long few true a b c = refl
-    says false few false a b c = absurd (let n : model_row row ≡ none = rw (kind, a) in no-some (sym n ∙ e))
-    says true false false a b c = absurd (let n : model_row row ≡ none = rw (kind, a, b) in no-some (sym n ∙ e))
+    says false few false a b c = absurd (let n : model_row row ≡ None = rw (kind, a) in no-some (sym n ∙ e))
+    says true false false a b c = absurd (let n : model_row row ≡ None = rw (kind, a, b) in no-some (sym n ∙ e))
     says true true false a b c =
         absurd (let o : omits_capacity row ≡ true = rw (a, kind, b, c) in false≢true (sym (ap omits_capacity (row_written models k) ∙ row-says (row_of model_width models k)) ∙ o))
 
 -- ---- what is counted: of the rows that can be read, the Processors' that lack the flag
-read_whole : (row : List ℕ) (o : Option Kind) (r : Row) → row_in row o ≡ some r → (eqb (length row) 10 ≡ true) × (ltb (cell row 2) 8 ≡ true)
-read_whole row none r e = absurd (no-some e)
-read_whole row (some kind) r e = by (eqb (length row) 10) (ltb (cell row 2) 8) (every is_port (unused_ports kind row)) e
+read_whole : (row : List ℕ) (o : Option Kind) (r : Row) → row_in row o ≡ Some r → (eqb (length row) 10 ≡ true) × (ltb (cell row 2) 8 ≡ true)
+read_whole row None r e = absurd (no-some e)
+read_whole row (Some kind) r e = by (eqb (length row) 10) (ltb (cell row 2) 8) (every is_port (unused_ports kind row)) e
   where
-    by : (long few ports : Bool) → (if hold (long ∷ few ∷ ports ∷ []) then some (record { id = cell row 0; parent = parent_in row; kind = kind }) else none) ≡ some r → (long ≡ true) × (few ≡ true)
+    by : (long few ports : Bool) → (if hold (long ∷ few ∷ ports ∷ []) then Some (record { id = cell row 0; parent = parent_in row; kind = kind }) else None) ≡ Some r → (long ≡ true) × (few ≡ true)
     by true true ports e = (refl, refl)
     by true false ports e = absurd (no-some e)
     by false few ports e = absurd (no-some e)
 
-pub counted-read : (row : List ℕ) (r : Row) → model_row row ≡ some r → omits_capacity row ≡ (eqb (cell row 1) 1 && not (is_given 2 row))
+pub counted-read : (row : List ℕ) (r : Row) → model_row row ≡ Some r → omits_capacity row ≡ (eqb (cell row 1) 1 && not (is_given 2 row))
 counted-read row r e = let w = read_whole row (kind_in row) r e in rw (w.0, w.1) (by (eqb (cell row 1) 1) (is_given 2 row))
   where
     by : (one given : Bool) → hold (one ∷ true ∷ not given ∷ []) ≡ (one && not given)
@@ -211,10 +210,10 @@ counted-read row r e = let w = read_whole row (kind_in row) r e in rw (w.0, w.1)
 
 -- and these are the rows that mean something else now: `as_before` has the others
 abbrev capacity_or : Option Row → ℕ
-capacity_or none = 0
-capacity_or (some r) = elim r.kind [ processor p ↦ p.queue_capacity | batcher b ↦ 0 | stopwatch w ↦ 0 | coupled ↦ 0 ]
+capacity_or None = 0
+capacity_or (Some r) = elim r.kind [ processor p ↦ p.queue_capacity | batcher b ↦ 0 | stopwatch w ↦ 0 | coupled ↦ 0 ]
 
-pub reads-otherwise : (row : List ℕ) (r : Row) → model_row row ≡ some r → omits_capacity row ≡ true → model_row row ≡ old_model_row row → ⊥
+pub reads-otherwise : (row : List ℕ) (r : Row) → model_row row ≡ Some r → omits_capacity row ≡ true → model_row row ≡ old_model_row row → ⊥
 reads-otherwise row r e o f = by (every is_port (cell row 5 ∷ cell row 6 ∷ [])) refl
   where
     says : Omits row
@@ -226,7 +225,7 @@ reads-otherwise row r e o f = by (every is_port (cell row 5 ∷ cell row 6 ∷ [
         let old : capacity_or (old_model_row row) ≡ without_end = rw (says.kind, says.long, lt-ltb (cell row 2) 8 says.fields, p, ne_eqb (cell row 2 / 2 % 2) 1 says.not-given) in
         let same_number : omitted_capacity ≡ without_end = sym now ∙ ap capacity_or f ∙ old in
         omega arith
-    by false p = let n : model_row row ≡ none = rw (says.kind, says.long, lt-ltb (cell row 2) 8 says.fields, p) in no-some (sym n ∙ e)
+    by false p = let n : model_row row ≡ None = rw (says.kind, says.long, lt-ltb (cell row 2) 8 says.fields, p) in no-some (sym n ∙ e)
 
 -- ---- "touches no other word"
 pub row_stays : (models : List ℕ) (k : ℕ) → omits_capacity (row_of model_width models k) ≡ false → row_of model_width (written_out models) k ≡ row_of model_width models k

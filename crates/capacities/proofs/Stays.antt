@@ -1,10 +1,9 @@
 -- A state's table migrated, by today's reading: it holds the same jobs, messages, clock and place, and passes 20 if it did. Assumes nothing.
 use Prim.Native.Nat.{ℕ, zero, suc, ◌+◌, ◌≤◌}
-use Rattle.std.specs.Prelude.{◌≡◌, Bool, true, false, not, ◌&&◌, List, [], ◌∷◌, map, eqb, length, get_or, if◌then◌else◌}
+use Rattle.std.specs.Prelude.{◌≡◌, Bool, true, false, not, ◌&&◌, List, [], ◌∷◌, map, eqb, length, get_or, if◌then◌else◌, Some}
 use Rattle.std.proofs.Math.Path.{refl, sym}
 use Rattle.std.proofs.Common.{ap, ◌∙◌, arith, leb-true, le-leb}
 use Rattle.std.proofs.lemmas.Bool.{false≢true}
-use Rattle.std.proofs.Math.Option.{some}
 use Rattle.std.proofs.Math.Dec.{leb}
 use Rattle.times.specs.Time.{is_time, is_timer}
 use Rattle.rules.specs.Sizes.{is_content, is_word, most_jobs, most_active}
@@ -138,13 +137,13 @@ passed_is (Intake.passed t) = refl
 passed-same : (p q : Posted) → Lines p.rows q.rows → p.connectors ≡ q.connectors → p.couplings ≡ q.couplings → is_passed (Intake.intake p) ≡ is_passed (Intake.intake q)
 passed-same p q l e f = passed_is (Intake.intake p) ∙ ap passed_by (verdict-alike p q l e f) ∙ sym (passed_is (Intake.intake q))
 
-some-lines : (rs ss : List Row) → Alike rs ss → Lines (map some rs) (map some ss)
+some-lines : (rs ss : List Row) → Alike rs ss → Lines (map Some rs) (map Some ss)
 some-lines rs ss empty = nothing
 some-lines (r ∷ rs) (s ∷ ss) (next h t) = read h (some-lines rs ss t)
 
 intake-same : (t u : Table) → Alike t.rows u.rows → t.connectors ≡ u.connectors → t.couplings ≡ u.couplings → passes_intake t ≡ passes_intake u
 unfolding passes_intake
-intake-same t u rows e f = passed-same (handed t) (handed u) (some-lines t.rows u.rows rows) (ap (map some) e) (ap (map some) f)
+intake-same t u rows e f = passed-same (handed t) (handed u) (some-lines t.rows u.rows rows) (ap (map Some) e) (ap (map Some) f)
 
 -- ---- what is valid under the first table is valid under the second
 second : (a b c : Bool) (rest : List Bool) → (b ≡ true → c ≡ true) → hold (a ∷ b ∷ rest) ≡ true → hold (a ∷ c ∷ rest) ≡ true

@@ -1,6 +1,5 @@
 -- The migration, computed: an edit of its sentence breaks a case. Assumes nothing.
-use Rattle.std.specs.Prelude.{ℕ, ◌≡◌, refl, List, [], ◌∷◌, ◌++◌}
-use Rattle.std.proofs.Math.Option.{none, some}
+use Rattle.std.specs.Prelude.{ℕ, ◌≡◌, refl, List, [], ◌∷◌, ◌++◌, None, Some}
 use Rattle.rules.specs.Table.{processor, Row}
 use Rattle.rules.specs.Layout.{model_row, lent}
 use Rattle.capacities.specs.Migration.{old_model_row, old_lent, written_out}
@@ -16,7 +15,7 @@ abbrev sound : ℕ → ℕ → List ℕ
 sound fields setting = 7 ∷ 1 ∷ fields ∷ 5 ∷ 1 ∷ 0 ∷ 0 ∷ 2 ∷ setting ∷ 0 ∷ []
 
 abbrev of_capacity : ℕ → Row
-of_capacity capacity = record { id = 7; parent = none; kind = processor (record { input = 1; output = 2; queue_capacity = capacity }) }
+of_capacity capacity = record { id = 7; parent = None; kind = processor (record { input = 1; output = 2; queue_capacity = capacity }) }
 
 pub record Written : Type 0 where
   -- flag and number, whatever stood in the cell and whatever else is wrong with the row
@@ -38,9 +37,9 @@ pub record Written : Type 0 where
   pub one-over : written_out (saying 1 0 8 ++ 1 ∷ []) ≡ saying 1 2 largest ++ 1 ∷ []
   pub every-row : written_out (saying 1 0 8 ++ saying 2 0 8 ++ saying 1 2 8 ++ saying 1 5 0 ++ 7 ∷ 1 ∷ 0 ∷ []) ≡ saying 1 2 largest ++ saying 2 0 8 ++ saying 1 2 8 ++ saying 1 7 largest ++ 7 ∷ 1 ∷ 0 ∷ []
   -- the two readings
-  pub read-now : model_row (sound 0 8) ≡ some (of_capacity 32)
-  pub read-before : old_model_row (sound 0 8) ≡ some (of_capacity largest)
-  pub given-before : old_model_row (sound 2 8) ≡ some (of_capacity 8)
+  pub read-now : model_row (sound 0 8) ≡ Some (of_capacity 32)
+  pub read-before : old_model_row (sound 0 8) ≡ Some (of_capacity largest)
+  pub given-before : old_model_row (sound 2 8) ≡ Some (of_capacity 8)
   pub read-after : lent (written_out (sound 0 8)) [] [] ≡ old_lent (sound 0 8) [] []
 
 pub cases : Written

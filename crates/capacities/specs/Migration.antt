@@ -1,6 +1,5 @@
 -- A7 of 02: "Stored tables that relied on the old reading .. get 2^64 - 1 written out." Definitions only. Assumes nothing.
-use Rattle.std.specs.Prelude.{ℕ, ◌+◌, ◌-◌, ◌^◌, List, [], ◌∷◌, ◌++◌, map, set, eqb, if◌then◌else◌}
-use Rattle.std.proofs.Math.Option.{Option, some}
+use Rattle.std.specs.Prelude.{ℕ, ◌+◌, ◌-◌, ◌^◌, List, [], ◌∷◌, ◌++◌, map, set, eqb, if◌then◌else◌, Option, Some}
 use Rattle.rules.specs.Table.{Kind, processor, Row}
 use Rattle.rules.specs.Intake.{Posted}
 use Rattle.rules.specs.Layout.{rows_of, cell, is_given, kind_in, row_in, omits_capacity, model_width, connector_width, coupling_width, connector_row, coupling_row}
@@ -15,7 +14,7 @@ old_capacity_in row = if is_given 2 row then cell row 8 else without_end
 -- every other kind is read as ever
 abbrev pub old_kind_in : List ℕ → Option Kind
 old_kind_in row =
-    if eqb (cell row 1) 1 then some (processor (record { input = cell row 4; output = cell row 7; queue_capacity = old_capacity_in row })) else kind_in row
+    if eqb (cell row 1) 1 then Some (processor (record { input = cell row 4; output = cell row 7; queue_capacity = old_capacity_in row })) else kind_in row
 
 abbrev pub old_model_row : List ℕ → Option Row
 old_model_row row = row_in row (old_kind_in row)

@@ -1,7 +1,6 @@
 -- A chain of C calls is the rules' list of calls: on a buffer that holds a simulation it leaves one that holds what the rules leave, and the batcher's promise holds of it. Assumes nothing.
-use Rattle.std.specs.Prelude.{ℕ, ◌+◌, ◌-◌, ◌≤◌, ◌≡◌, refl, Bool, true, false, not, List, [], ◌∷◌, ◌++◌, length, get_or, take, drop, T, if◌then◌else◌}
+use Rattle.std.specs.Prelude.{ℕ, ◌+◌, ◌-◌, ◌≤◌, ◌≡◌, refl, Bool, true, false, not, List, [], ◌∷◌, ◌++◌, length, get_or, take, drop, T, if◌then◌else◌, Option, None, Some}
 use Rattle.std.proofs.Common.{sym, ap, subst, ◌∙◌, arith, length-append, length-drop, length-take-le, drop-drop, T_not, leb→le}
-use Rattle.std.proofs.Math.Option.{Option, none, some}
 use Rattle.std.proofs.Math.Seq.{drop-append-add}
 use Rattle.times.specs.Order.{same_test}
 use Rattle.rules.specs.declared.Batcher.{Batcher}
@@ -249,10 +248,10 @@ chain-beyond (c ∷ cs) state stored (f & fs) n l =
 -- ---- a number tells the refusal: 0 is no refusal's
 abbrev numbered : List (Option Refusal)
 numbered =
-    none ∷ some TooLarge ∷ some BadRow ∷ some BadCoupling ∷ some ModelNotFound ∷ some InvalidMessage ∷ some InvalidModelState ∷ some NoQueueRoom ∷ some NoMessageRoom ∷ some NoServiceTime ∷ some BadTime
-    ∷ some ClockOverflow ∷ some Idle ∷ some NoOutRoom ∷ some BadBlock ∷ none ∷ none ∷ none ∷ none ∷ none ∷ some BadState ∷ []
+    None ∷ Some TooLarge ∷ Some BadRow ∷ Some BadCoupling ∷ Some ModelNotFound ∷ Some InvalidMessage ∷ Some InvalidModelState ∷ Some NoQueueRoom ∷ Some NoMessageRoom ∷ Some NoServiceTime ∷ Some BadTime
+    ∷ Some ClockOverflow ∷ Some Idle ∷ Some NoOutRoom ∷ Some BadBlock ∷ None ∷ None ∷ None ∷ None ∷ None ∷ Some BadState ∷ []
 
-number-tells : (r : Refusal) → get_or numbered (number r) none ≡ some r
+number-tells : (r : Refusal) → get_or numbered (number r) None ≡ Some r
 number-tells TooLarge = refl
 number-tells BadRow = refl
 number-tells BadCoupling = refl
@@ -269,8 +268,8 @@ number-tells NoOutRoom = refl
 number-tells BadBlock = refl
 number-tells BadState = refl
 
-told-by : (r : Refusal) (n : ℕ) → number r ≡ n → get_or numbered n none ≡ some r
-told-by r n e = ap (λ (k : ℕ). get_or numbered k none) (sym e) ∙ number-tells r
+told-by : (r : Refusal) (n : ℕ) → number r ≡ n → get_or numbered n None ≡ Some r
+told-by r n e = ap (λ (k : ℕ). get_or numbered k None) (sym e) ∙ number-tells r
 
 -- "0 or the number of the refusal": what returned 0 was done
 pub zero-done : {A : Type 0} (o : Outcome A) → number_of o ≡ 0 → (a : A) × (o ≡ done a)

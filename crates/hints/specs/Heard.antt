@@ -1,9 +1,8 @@
 -- What is not known takes nothing: a message to an end that names no model reaches nobody, and one to a port that is not there is refused with 5 or ignored (but a Batcher takes it). Assumes nothing.
 use Prim.Native.Nat.{ℕ, suc, ◌<◌}
-use Rattle.std.specs.Prelude.{◌≡◌, refl, ◌↔◌, Bool, true, false, List, [], ◌∷◌, ◌++◌, length, T, eqb, Float, if◌then◌else◌}
+use Rattle.std.specs.Prelude.{◌≡◌, refl, ◌↔◌, Bool, true, false, List, [], ◌∷◌, ◌++◌, length, T, eqb, Float, if◌then◌else◌, Option, Some}
 use Rattle.std.proofs.Common.{sym, ap, ◌∙◌, inl, inr, arith}
 use Rattle.std.proofs.lemmas.Bool.{false≢true}
-use Rattle.std.proofs.Math.Option.{Option, some}
 use Rattle.rules.specs.declared.Refusal.{Refusal}
 use Rattle.rules.specs.declared.Refusal.TheVariants.{ModelNotFound, InvalidMessage}
 use Rattle.rules.specs.declared.Processor.{Processor}
@@ -191,9 +190,9 @@ nothing-in [] never = refl
 nothing-in (x ∷ xs) never = absurd (never x (here refl))
 
 module _ (t : Table) (owner port : ℕ) where
-  input-port : (c : Coupling) → port_from sides.In owner c ≡ some port → (target tp : ℕ) × (c ≡ external_input owner port target tp)
+  input-port : (c : Coupling) → port_from sides.In owner c ≡ Some port → (target tp : ℕ) × (c ≡ external_input owner port target tp)
   input-port (external_input o sp target tp) e = elim (either (same o owner)) [
-    | inl f ↦ let g : some sp ≡ some port = sym (rw (is_true (same o owner) f)) ∙ e in let q : sp ≡ port = cc in (target, tp, λ k. external_input (f k) (q k) target tp)
+    | inl f ↦ let g : Some sp ≡ Some port = sym (rw (is_true (same o owner) f)) ∙ e in let q : sp ≡ port = cc in (target, tp, λ k. external_input (f k) (q k) target tp)
     | inr n ↦ absurd (no-some (sym (rw (is_false (same o owner) n)) ∙ e))
   ]
   input-port (external_output o source sp tp) e = absurd (no-some e)
@@ -209,17 +208,17 @@ module _ (t : Table) (owner port : ℕ) where
       has : (member port (chosen (port_from sides.In owner) t.couplings) ≡ false) ↔ (port ∈ chosen (port_from sides.In owner) t.couplings → ⊥)
       has = fails-is (member-decides port (chosen (port_from sides.In owner) t.couplings))
 
-      ports : (port ∈ chosen (port_from sides.In owner) t.couplings) ↔ Any (λ c. port_from sides.In owner c ≡ some port) t.couplings
+      ports : (port ∈ chosen (port_from sides.In owner) t.couplings) ↔ Any (λ c. port_from sides.In owner c ≡ Some port) t.couplings
       ports = chosen-element (port_from sides.In owner) t.couplings port
 
       none_of : {A : Type 0} {x : A} {xs : List A} → xs ≡ [] → x ∈ xs → ⊥
       none_of e (here f) = let z : ◌≡◌ {A = ℕ} 0 1 = cc in omega arith
       none_of e (there at) = let z : ◌≡◌ {A = ℕ} 0 1 = cc in omega arith
 
-      from-any : Any (λ c. port_from sides.In owner c ≡ some port) t.couplings → inputs t owner port ≡ [] → ⊥
+      from-any : Any (λ c. port_from sides.In owner c ≡ Some port) t.couplings → inputs t owner port ≡ [] → ⊥
       from-any at e = let found = witness at in none_of e ((inputs-element t owner port (record { target = found.0; port = found.1 })).1 found.2)
         where
-          witness : {cs : List Coupling} → Any (λ c. port_from sides.In owner c ≡ some port) cs → (target tp : ℕ) × (external_input owner port target tp ∈ cs)
+          witness : {cs : List Coupling} → Any (λ c. port_from sides.In owner c ≡ Some port) cs → (target tp : ℕ) × (external_input owner port target tp ∈ cs)
           witness (here {x = c} e) = let is = input-port c e in (is.0, is.1, here is.2)
           witness (there at) = let is = witness at in (is.0, is.1, there is.2)
 

@@ -1,6 +1,5 @@
 -- Which ends of connectors, couplings and injections "[name] no model or a port that the model does not have". Definitions only. Assumes nothing.
-use Rattle.std.specs.Prelude.{ℕ, ◌/◌, Bool, true, false, List, [], ◌∷◌, map, length, eqb, if◌then◌else◌}
-use Rattle.std.proofs.Math.Option.{Option, none, some}
+use Rattle.std.specs.Prelude.{ℕ, ◌/◌, Bool, true, false, List, [], ◌∷◌, map, length, eqb, if◌then◌else◌, Option, None, Some}
 use Rattle.rules.specs.Base.{those, chosen, from}
 use Rattle.rules.specs.Table.{Coupling, external_input, external_output, internal_coupling, Table, id_at, kind_at, is_parent, is_parentless, parentless, components}
 use Rattle.rules.specs.Valid.{member}
@@ -18,12 +17,12 @@ use Rattle.hints.specs.declared.Known.TheVariants as known
 -- 01: "A message goes at once along every matching external input coupling to the component"; "Each message out is .. put out along external output couplings."
 -- So a Coupled takes messages at the source ports of the former, and puts them out at the target ports of the latter.
 abbrev pub port_from : Side → ℕ → Coupling → Option ℕ
-port_from In owner (external_input o sp target tp) = if eqb o owner then some sp else none
-port_from In owner (external_output o source sp tp) = none
-port_from In owner (internal_coupling o source sp target tp) = none
-port_from Out owner (external_input o sp target tp) = none
-port_from Out owner (external_output o source sp tp) = if eqb o owner then some tp else none
-port_from Out owner (internal_coupling o source sp target tp) = none
+port_from In owner (external_input o sp target tp) = if eqb o owner then Some sp else None
+port_from In owner (external_output o source sp tp) = None
+port_from In owner (internal_coupling o source sp target tp) = None
+port_from Out owner (external_input o sp target tp) = None
+port_from Out owner (external_output o source sp tp) = if eqb o owner then Some tp else None
+port_from Out owner (internal_coupling o source sp target tp) = None
 
 -- the ports on a side of the model with this id. A Batcher has the port that its row names, though 01 says of its jobs: "The port isn't looked at." A broken row has no ports.
 abbrev pub ports_of : Side → List Coupling → ℕ → Kind → List ℕ

@@ -1,9 +1,8 @@
 -- What the private functions of `hints` answer, and the searches that tell what an end names. Assumes nothing.
-use Rattle.std.specs.Prelude.{ℕ, ◌/◌, ◌≡◌, refl, Bool, true, false, ◌&&◌, List, [], ◌∷◌, map, length, eqb, if◌then◌else◌, None, Some}
+use Rattle.std.specs.Prelude.{ℕ, ◌/◌, ◌≡◌, refl, Bool, true, false, ◌&&◌, List, [], ◌∷◌, map, length, eqb, if◌then◌else◌, None, Some, Option}
 use Rattle.std.proofs.Math.Path.{sym, ap}
 use Rattle.std.proofs.Common.{◌∙◌, arith}
 use Rattle.std.proofs.lemmas.Bool.{false≢true}
-use Rattle.std.proofs.Math.Option.{Option, none, some}
 use Rattle.std.proofs.Math.Nat.{sub-zero}
 use borrow.Author.Tests.{eqb-true}
 use Rattle.rules.specs.Base.{those, chosen, some_of, from}
@@ -39,8 +38,8 @@ is_named wanted models id k = eqb (id_in models k) id && is_parent_of wanted (pa
 
 -- a parent that was read
 pub parent-read : {p : Option ℕ} (o : Option ℕ) → p ≡ parent_of o → option_of p ≡ o
-parent-read none e = ap option_of e
-parent-read (some id) e = ap option_of e
+parent-read None e = ap option_of e
+parent-read (Some id) e = ap option_of e
 
 -- one test after the other is both
 those-both : (f g : ℕ → Bool) (ks : List ℕ) → those f (those g ks) ≡ those (λ k. f k && g k) ks
@@ -96,24 +95,24 @@ port_key side owner port =
     record { first = record { at = 0; value = owner }; second = record { at = 1; value = kind_number side }; third = held; fourth = held }
 
 abbrev passes : (ℕ → Bool) → Option ℕ → Bool
-passes test none = false
-passes test (some p) = test p
+passes test None = false
+passes test (Some p) = test p
 
 some-chosen : {A : Type 0} (test : ℕ → Bool) (choose : A → Option ℕ) (f : ℕ → A) (ks : List ℕ) → some_of test (chosen choose (map f ks)) ≡ some_of (λ k. passes test (choose (f k))) ks
 some-chosen test choose f [] = refl
 some-chosen test choose f (k ∷ ks) = by (choose (f k)) (some-chosen test choose f ks)
   where
     by : (o : Option ℕ) → some_of test (chosen choose (map f ks)) ≡ some_of (λ k. passes test (choose (f k))) ks
-        → some_of test (elim o [ none ↦ chosen choose (map f ks) | some y ↦ y ∷ chosen choose (map f ks) ]) ≡ (if passes test o then true else some_of (λ k. passes test (choose (f k))) ks)
-    by none later = later
-    by (some y) later = λ i. if test y then true else later i
+        → some_of test (elim o [ None ↦ chosen choose (map f ks) | Some y ↦ y ∷ chosen choose (map f ks) ]) ≡ (if passes test o then true else some_of (λ k. passes test (choose (f k))) ks)
+    by None later = later
+    by (Some y) later = λ i. if test y then true else later i
 
 module _ (row : List ℕ) (owner port : ℕ) where
   -- what a key of this side asks of a row
   abbrev asks : Side → Bool
   asks side = eqb (cell row 0) owner && eqb (cell row 1) (kind_number side) && eqb (cell row (port_cell side)) port && eqb (cell row (port_cell side)) port
 
-  hit : (o : Bool) (p : ℕ) → passes (λ p. eqb p port) (if o then some p else none) ≡ (o && true && eqb p port && eqb p port)
+  hit : (o : Bool) (p : ℕ) → passes (λ p. eqb p port) (if o then Some p else None) ≡ (o && true && eqb p port && eqb p port)
   hit false p = refl
   hit true p = by (eqb p port)
     where

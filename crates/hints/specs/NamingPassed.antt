@@ -1,7 +1,6 @@
 -- In a table that passes intake, what an end names by the lent words is what it names in the rules' table. Assumes nothing.
-use Rattle.std.specs.Prelude.{ℕ, ◌/◌, ◌<◌, ◌≡◌, refl, Bool, List, map, length}
+use Rattle.std.specs.Prelude.{ℕ, ◌/◌, ◌<◌, ◌≡◌, refl, Bool, List, map, length, Option}
 use Rattle.std.proofs.Common.{sym, ap, ◌∙◌, arith}
-use Rattle.std.proofs.Math.Option.{Option}
 use Rattle.std.proofs.Math.Dec.{eqb}
 use Rattle.rules.specs.Base.{those, from}
 use Rattle.rules.specs.Table.{Table, row_at, id_at, is_parent, is_parentless}

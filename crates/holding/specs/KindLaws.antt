@@ -1,9 +1,8 @@
 -- The kind of a row of a table that has passed intake, by its words: its number, and a processor's capacity. Assumes nothing.
-use Rattle.std.specs.Prelude.{ℕ, ◌+◌, ◌*◌, ◌≤◌, ◌<◌, ◌/◌, ◌%◌, ◌≡◌, Bool, List, length, get_or, drop, eqb, if◌then◌else◌}
+use Rattle.std.specs.Prelude.{ℕ, ◌+◌, ◌*◌, ◌≤◌, ◌<◌, ◌/◌, ◌%◌, ◌≡◌, Bool, List, length, get_or, drop, eqb, if◌then◌else◌, Option, None, Some}
 use Rattle.std.proofs.Math.Path.{refl, sym, ap}
 use Rattle.std.proofs.Common.{◌∙◌, arith, get_or-take, get_or-drop}
 use Rattle.std.proofs.Math.Bool.{true, false}
-use Rattle.std.proofs.Math.Option.{Option, none, some}
 use borrow.Author.Tests.{eqb-true}
 use Rattle.rules.specs.declared.Processor.{Processor}
 use Rattle.rules.specs.declared.Batcher.{Batcher}
@@ -48,45 +47,45 @@ of-coupled coupled a b c = refl
 
 -- ---- what a row's words say
 number_or : Option Kind → ℕ
-number_or none = 0
-number_or (some k) = kind_number k
+number_or None = 0
+number_or (Some k) = kind_number k
 
 capacity_or : Option Kind → ℕ
-capacity_or none = 0
-capacity_or (some (processor p)) = p.queue_capacity
-capacity_or (some (batcher b)) = 0
-capacity_or (some (stopwatch w)) = 0
-capacity_or (some coupled) = 0
+capacity_or None = 0
+capacity_or (Some (processor p)) = p.queue_capacity
+capacity_or (Some (batcher b)) = 0
+capacity_or (Some (stopwatch w)) = 0
+capacity_or (Some coupled) = 0
 
-module _ (n : ℕ) (p b k : Kind) (s : Option Kind) (first : kind_number p ≡ 1) (second : kind_number b ≡ 2) (third : s ≡ some k → kind_number k ≡ 3) where
-  number-4 : (t : Bool) → eqb n 4 ≡ t → (if t then some coupled else none) ≡ some k → n ≡ kind_number k
+module _ (n : ℕ) (p b k : Kind) (s : Option Kind) (first : kind_number p ≡ 1) (second : kind_number b ≡ 2) (third : s ≡ Some k → kind_number k ≡ 3) where
+  number-4 : (t : Bool) → eqb n 4 ≡ t → (if t then Some coupled else None) ≡ Some k → n ≡ kind_number k
   unfolding number_or
   number-4 true t e = eqb-true n 4 t ∙ ap number_or e
   number-4 false t e = absurd (no-some e)
 
-  number-3 : (t : Bool) → eqb n 3 ≡ t → (if t then s else if eqb n 4 then some coupled else none) ≡ some k → n ≡ kind_number k
+  number-3 : (t : Bool) → eqb n 3 ≡ t → (if t then s else if eqb n 4 then Some coupled else None) ≡ Some k → n ≡ kind_number k
   number-3 true t e = eqb-true n 3 t ∙ sym (third e)
   number-3 false t e = number-4 (eqb n 4) refl e
 
-  number-2 : (t : Bool) → eqb n 2 ≡ t → (if t then some b else if eqb n 3 then s else if eqb n 4 then some coupled else none) ≡ some k → n ≡ kind_number k
+  number-2 : (t : Bool) → eqb n 2 ≡ t → (if t then Some b else if eqb n 3 then s else if eqb n 4 then Some coupled else None) ≡ Some k → n ≡ kind_number k
   unfolding number_or
   number-2 true t e = eqb-true n 2 t ∙ sym second ∙ ap number_or e
   number-2 false t e = number-3 (eqb n 3) refl e
 
-  number-1 : (t : Bool) → eqb n 1 ≡ t → (if t then some p else if eqb n 2 then some b else if eqb n 3 then s else if eqb n 4 then some coupled else none) ≡ some k → n ≡ kind_number k
+  number-1 : (t : Bool) → eqb n 1 ≡ t → (if t then Some p else if eqb n 2 then Some b else if eqb n 3 then s else if eqb n 4 then Some coupled else None) ≡ Some k → n ≡ kind_number k
   unfolding number_or
   number-1 true t e = eqb-true n 1 t ∙ sym first ∙ ap number_or e
   number-1 false t e = number-2 (eqb n 2) refl e
 
-number_of : (row : List ℕ) (k : Kind) → kind_in row ≡ some k → cell row 1 ≡ kind_number k
+number_of : (row : List ℕ) (k : Kind) → kind_in row ≡ Some k → cell row 1 ≡ kind_number k
 unfolding number_or
 number_of row k e = number-1 (cell row 1) _ _ k (stopwatch_in row (metric_in row)) refl refl (watches (metric_in row)) (eqb (cell row 1) 1) refl e
   where
-    watches : (o : Option Metric) → stopwatch_in row o ≡ some k → kind_number k ≡ 3
-    watches none e = absurd (no-some e)
-    watches (some m) e = sym (ap number_or e)
+    watches : (o : Option Metric) → stopwatch_in row o ≡ Some k → kind_number k ≡ 3
+    watches None e = absurd (no-some e)
+    watches (Some m) e = sym (ap number_or e)
 
-capacity-of : (row : List ℕ) (p : Processor) → kind_in row ≡ some (processor p) → capacity_in row ≡ p.queue_capacity
+capacity-of : (row : List ℕ) (p : Processor) → kind_in row ≡ Some (processor p) → capacity_in row ≡ p.queue_capacity
 unfolding capacity_or
 capacity-of row p e = ap capacity_or (rw (is_true (same (cell row 1) 1) (number_of row (processor p) e)) at e)
 
@@ -104,7 +103,7 @@ module _ (state : List ℕ) (inside : Inside state) (row : ℕ) (l : row < lengt
       ap (λ (p : ℕ). get_or state p 0) (sym place) ∙ sym (get_or-drop 3 state (row * 10 + c) 0) ∙ sym (get_or-take (count_in 0 state * 10) (drop 3 state) (row * 10 + c) 0 below)
       ∙ sym (row-cell model_width (models_in state) row c m)
 
-  read-in : kind_in (row_of model_width (models_in state) row) ≡ some (kind_at (table_in state) row)
+  read-in : kind_in (row_of model_width (models_in state) row) ≡ Some (kind_at (table_in state) row)
   read-in = kind-read (models_in state) (connectors_in state) (couplings_in state) (table_in state) inside.passes row l
 
   pub number_in : get_or state (row * 10 + 3 + 1) 0 ≡ kind_number (kind_at (table_in state) row)
@@ -112,7 +111,7 @@ module _ (state : List ℕ) (inside : Inside state) (row : ℕ) (l : row < lengt
 
   module _ (p : Processor) (is : kind_at (table_in state) row ≡ processor p) where
     capacity-in : (if eqb (get_or state (row * 10 + 3 + 2) 0 / 2 % 2) 1 then get_or state (row * 10 + 3 + 8) 0 else omitted_capacity) ≡ p.queue_capacity
-    capacity-in = rw (cell_in 2 (omega arith), cell_in 8 (omega arith)) (capacity-of (row_of model_width (models_in state) row) p (read-in ∙ ap some is))
+    capacity-in = rw (cell_in 2 (omega arith), cell_in 8 (omega arith)) (capacity-of (row_of model_width (models_in state) row) p (read-in ∙ ap Some is))
 
     pub capacity-given : get_or state (row * 10 + 3 + 2) 0 / 2 % 2 ≡ 1 → get_or state (row * 10 + 3 + 8) 0 ≡ p.queue_capacity
     capacity-given g = rw (is_true (same (get_or state (row * 10 + 3 + 2) 0 / 2 % 2) 1) g) at capacity-in

@@ -1,8 +1,7 @@
 -- The numbers and words of an answer are those of the rules' outcome that it tells. Assumes nothing.
-use Rattle.std.specs.Prelude.{ℕ, ◌≡◌, refl, List, Float, Err, Ok, Result}
+use Rattle.std.specs.Prelude.{ℕ, ◌≡◌, refl, List, Float, Err, Ok, Result, None, Some}
 use Rattle.rules.specs.declared.Refusal.{Refusal}
 use Rattle.std.proofs.Common.{sym, ap, ◌∙◌}
-use Rattle.std.proofs.Math.Option.{none, some}
 use Rattle.std.specs.Float.{binary64}
 use Rattle.std.specs.Float.Ieee.{to_bits}
 use Rattle.rules.specs.declared.Message.{Message}
@@ -101,16 +100,16 @@ status-number : (o : Outcome Calls.Status) → status_number (status_answered o)
 status-number (refused r) = refl
 status-number (done (Calls.OfProcessor phase)) = refl
 status-number (done (Calls.OfBatcher phase)) = refl
-status-number (done (Calls.Mean none)) = refl
-status-number (done (Calls.Mean (some mean))) = refl
+status-number (done (Calls.Mean None)) = refl
+status-number (done (Calls.Mean (Some mean))) = refl
 status-number (done (Calls.ParkedCount count)) = refl
 
 status-words : (report : List ℕ) (o : Outcome Calls.Status) → words_said report (status_answered o) ≡ status_after report o
 status-words report (refused r) = refl
 status-words report (done (Calls.OfProcessor phase)) = refl
 status-words report (done (Calls.OfBatcher phase)) = refl
-status-words report (done (Calls.Mean none)) = refl
-status-words report (done (Calls.Mean (some mean))) = refl
+status-words report (done (Calls.Mean None)) = refl
+status-words report (done (Calls.Mean (Some mean))) = refl
 status-words report (done (Calls.ParkedCount count)) = refl
 
 -- what was answered, and what it is known to be

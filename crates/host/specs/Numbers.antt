@@ -1,7 +1,6 @@
 -- What the C calls return and write: 01's numbers for each answer. Definitions only. Assumes nothing.
-use Rattle.std.specs.Prelude.{ℕ, ◌/◌, List, length, set, Float, Err, Ok, Result, tt, ⊤}
+use Rattle.std.specs.Prelude.{ℕ, ◌/◌, List, length, set, Float, Err, Ok, Result, tt, ⊤, None, Some}
 use Rattle.rules.specs.declared.Refusal.{Refusal}
-use Rattle.std.proofs.Math.Option.{none, some}
 use Rattle.std.specs.Float.{binary64}
 use Rattle.std.specs.Float.Ieee.{to_bits}
 use Rattle.rules.specs.declared.Message.{Message}
@@ -56,8 +55,8 @@ said what value report = set (set report 0 what) 1 value
 abbrev pub status_said : Status → List ℕ → List ℕ
 status_said (OfProcessor phase) report = said 0 (working_number phase) report
 status_said (OfBatcher phase) report = said 1 (batching_number phase) report
-status_said (Mean (some mean)) report = said 2 (to_bits binary64 mean) report
-status_said (Mean none) report = said 3 0 report
+status_said (Mean (Some mean)) report = said 2 (to_bits binary64 mean) report
+status_said (Mean None) report = said 3 0 report
 status_said (ParkedCount count) report = said 4 count report
 
 -- "written only where nothing is refused, and so are `count` and `time`"

@@ -1,7 +1,6 @@
 -- The laws of the table inside a lent state: where its parts stand, how many rows they have, what a search in them finds, and how wide their words are. Assumes nothing.
 use Rattle.std.specs.Prelude.{ℕ, zero, suc, ◌+◌, ◌-◌, ◌*◌, ◌≤◌, ◌<◌, ◌≡◌, refl, Bool, true, false, List, [], ◌∷◌, map, length, get_or, take, drop, T, eqb, if◌then◌else◌, None, Some}
 use Rattle.std.proofs.Common.{sym, ap, ◌∙◌, subst, arith, zero-add, add-zero, eqb-true, get_or-take, get_or-drop, ltb→lt}
-use Rattle.std.proofs.Math.Option.{none, some}
 use Rattle.std.proofs.Math.Nat.{sub-zero}
 use Rattle.rules.specs.Base.{those, hold, from}
 use Rattle.rules.specs.Sizes.{is_id}
@@ -67,7 +66,7 @@ place-keeps P f n p k l = rw zero-add at (places-keep P f 0 n p k l)
 small : (n : ℕ) → T (is_id n) → n < 65536
 small n t = ltb→lt n 65536 t
 
-taken : {A : Type 0} (t : Bool) (x y : A) → (if t then some x else none) ≡ some y → T t
+taken : {A : Type 0} (t : Bool) (x y : A) → (if t then Some x else None) ≡ Some y → T t
 taken true x y e = tt
 taken false x y e = absurd (no-some e)
 
@@ -85,10 +84,10 @@ module _ (rows : List Row) (row : List ℕ) where
   output-small : All T (eqb (length row) coupling_width ∷ is_id (cell row 4) ∷ []) → All T (coupling_rules rows (output_in row)) → LeadsSmall row
   output-small (whole & unused & nil) (owner & source & sp & tp & rest) = (small (cell row 4) unused, small (cell row 5) tp)
 
-  coupling-small : coupling_row row ≡ some (coupling_of row) → T (hold (coupling_rules rows (coupling_of row))) → LeadsSmall row
+  coupling-small : coupling_row row ≡ Some (coupling_of row) → T (hold (coupling_rules rows (coupling_of row))) → LeadsSmall row
   coupling-small = go (eqb (cell row 1) 1) (eqb (cell row 1) 2) (eqb (cell row 1) 3)
     where
-      go : (a b c : Bool) → whole_coupling row (coupling_by row a b c) ≡ some (if a then input_in row else if b then output_in row else inner_in row)
+      go : (a b c : Bool) → whole_coupling row (coupling_by row a b c) ≡ Some (if a then input_in row else if b then output_in row else inner_in row)
           → T (hold (coupling_rules rows (if a then input_in row else if b then output_in row else inner_in row))) → LeadsSmall row
       go true b c e h = input-small (parts (coupling_rules rows (input_in row)) h)
       go false true c e h =

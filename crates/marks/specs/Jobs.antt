@@ -1,6 +1,5 @@
 -- A stopwatch's jobs in lent words: from the words to the rules' list of jobs, and what is read from it. Assumes nothing.
-use Rattle.std.specs.Prelude.{ℕ, ◌+◌, Bool, ◌&&◌, List, [], ◌∷◌, map, length, from_bits, nat_le, slice_index, Float, if◌then◌else◌, None, Some}
-use Rattle.std.proofs.Math.Option.{Option, none, some}
+use Rattle.std.specs.Prelude.{ℕ, ◌+◌, Bool, ◌&&◌, List, [], ◌∷◌, map, length, from_bits, nat_le, slice_index, Float, if◌then◌else◌, None, Some, Option}
 use Rattle.std.specs.Float.{binary64}
 use Rattle.times.specs.Time.{is_timer}
 use Rattle.times.specs.Answers.{time_of_bits}
@@ -27,8 +26,8 @@ width = 192
 
 -- a mark is made where its word holds a time
 abbrev pub time_in : Option Float → Option Float
-time_in (Some x) = some x
-time_in None = none
+time_in (Some x) = Some x
+time_in None = None
 
 abbrev pub mark_in : ℕ → Option Float
 mark_in word = time_in (time_of_bits word)
@@ -65,8 +64,8 @@ unfoldable pub fetched_in : Metric → ℕ → List ℕ → Fetched
 fetched_in metric held words = if whole_in held words then first_job (fetched metric (durations (jobs_in held words))) else fetching.CutShort
 
 abbrev pub some_mean : Option Float → MeanOf
-some_mean none = meaning.Nothing
-some_mean (some x) = meaning.Mean x
+some_mean None = meaning.Nothing
+some_mean (Some x) = meaning.Mean x
 
 unfoldable pub mean_in : ℕ → List ℕ → MeanOf
 mean_in held words = if whole_in held words then some_mean (mean (durations (jobs_in held words))) else meaning.CutShort

@@ -3,7 +3,6 @@ use Rattle.std.specs.Prelude.{◌≡◌, ℕ, zero, suc, ◌+◌, ◌-◌, ◌^�
 use Rattle.std.proofs.Common.{sym, ap, ◌∙◌, subst, arith, eq-or-lt_of_le, inl, inr, ⊎_elim, length-set, drop-cons, drop-set-lt, get_or-take, get_or-set_same, get_or-set_other, leb→le, le→leb, eqb→eq, lt→ltb}
 use borrow.Author.Tests.{lt-ltb, le-ltb, ltb-true, ltb-false, eqb-true, eqb-false}
 use Rattle.std.proofs.lemmas.Simd.{map-map}
-use Rattle.std.proofs.Math.Option.{none, some}
 use Rattle.std.proofs.lemmas.List.{length-map}
 use Rattle.std.specs.Float.{binary64}
 use Rattle.std.specs.Float.Ieee.{to_bits, fits, le, of_bits}
@@ -127,14 +126,14 @@ module _ (mark : Mark) (held name : ℕ) (clock : Float) (words : List ℕ) wher
     unfolding marked_in
     marked-at k e = rw (whole, e)
 
-    module _ (none : first_from (is_named_at words name) 0 held ≡ None) where
+    module _ (None : first_from (is_named_at words name) 0 held ≡ None) where
       pub marked-full : held ≡ most_jobs → marked_in mark held name clock words ≡ (NoRoom, words)
       unfolding marked_in
-      marked-full e = rw (whole, none, le-ltb held most_jobs (omega arith))
+      marked-full e = rw (whole, None, le-ltb held most_jobs (omega arith))
 
       pub marked-new : (held ≢ most_jobs) → marked_in mark held name clock words ≡ (Held (suc held), mark_at mark clock held (with_name held name words))
       unfolding marked_in
-      marked-new n = rw (whole, none, lt-ltb held most_jobs (omega (arith, (whole_says held words whole).0)))
+      marked-new n = rw (whole, None, lt-ltb held most_jobs (omega (arith, (whole_says held words whole).0)))
 
   -- what holds of each answer holds of the mark
   marked-cases : (P : Marking × List ℕ → Type 0)
@@ -179,9 +178,9 @@ mark_of Start clock = started clock
 mark_of Stop clock = stopped clock
 
 abbrev unmarked : ℕ → Marks
-unmarked name = record { name = name; start = none; stop = none }
+unmarked name = record { name = name; start = None; stop = None }
 
-pub not_made : mark_in (to_bits binary64 never) ≡ none
+pub not_made : mark_in (to_bits binary64 never) ≡ None
 unfolding time_of_bits is_time fits le to_bits of_bits
 not_made = refl
 
@@ -222,7 +221,7 @@ module _ (clock : Float) (words : List ℕ) (k : ℕ) (low : k < most_jobs) wher
     job-marked : (mark : Mark) → T (is_time clock) → job_at (mark_at mark clock k words) k ≡ mark_of mark clock (job_at words k)
     job-marked mark t = go mark (mark-here mark)
       where
-        made : mark_in (to_bits binary64 clock) ≡ some clock
+        made : mark_in (to_bits binary64 clock) ≡ Some clock
         made = ap time_in (bits_back clock t)
 
         go : (mark : Mark) → Cells (mark_at mark clock k words) k (slice_index words k) (start_word mark clock (slice_index words (starts_at + k))) (stop_word mark clock (slice_index words (stops_at + k)))
@@ -234,25 +233,25 @@ module _ (clock : Float) (words : List ℕ) (k : ℕ) (low : k < most_jobs) wher
 module _ (words : List ℕ) (k name : ℕ) (low : k < most_jobs) where
   name-others : (j : ℕ) → j < most_jobs → (j ≢ k) → SameCells (with_name k name words) words j
   name-others j l n =
-      let none = to_bits binary64 never in
+      let None = to_bits binary64 never in
       let one = set words k name in
-      let two = set one (starts_at + k) none in
+      let two = set one (starts_at + k) None in
       let a = elsewhere words k name j n (λ e. omega arith) (λ e. omega arith) in
-      let b = elsewhere one (starts_at + k) none j (λ e. omega arith) (λ e. omega arith) (λ e. omega arith) in
-      let c = elsewhere two (stops_at + k) none j (λ e. omega arith) (λ e. omega arith) (λ e. omega arith) in
+      let b = elsewhere one (starts_at + k) None j (λ e. omega arith) (λ e. omega arith) (λ e. omega arith) in
+      let c = elsewhere two (stops_at + k) None j (λ e. omega arith) (λ e. omega arith) (λ e. omega arith) in
       (c.0 ∙ b.0 ∙ a.0, c.1 ∙ b.1 ∙ a.1, c.2 ∙ b.2 ∙ a.2)
 
   module _ (long : width ≤ length words) where
     name-here : Cells (with_name k name words) k name (to_bits binary64 never) (to_bits binary64 never)
     name-here =
-        let none = to_bits binary64 never in
+        let None = to_bits binary64 never in
         let one = set words k name in
-        let two = set one (starts_at + k) none in
+        let two = set one (starts_at + k) None in
         let first : length one ≡ length words = length-set words k name in
-        let second : length two ≡ length words = length-set one (starts_at + k) none ∙ first in (
-          get_or-set_other two (stops_at + k) k none 0 (λ e. omega arith) ∙ get_or-set_other one (starts_at + k) k none 0 (λ e. omega arith) ∙ get_or-set_same words k name 0 (omega arith),
-          get_or-set_other two (stops_at + k) (starts_at + k) none 0 (λ e. omega arith) ∙ get_or-set_same one (starts_at + k) none 0 (omega arith),
-          get_or-set_same two (stops_at + k) none 0 (omega arith),
+        let second : length two ≡ length words = length-set one (starts_at + k) None ∙ first in (
+          get_or-set_other two (stops_at + k) k None 0 (λ e. omega arith) ∙ get_or-set_other one (starts_at + k) k None 0 (λ e. omega arith) ∙ get_or-set_same words k name 0 (omega arith),
+          get_or-set_other two (stops_at + k) (starts_at + k) None 0 (λ e. omega arith) ∙ get_or-set_same one (starts_at + k) None 0 (omega arith),
+          get_or-set_same two (stops_at + k) None 0 (omega arith),
         )
 
     job-named : job_at (with_name k name words) k ≡ unmarked name
@@ -304,9 +303,9 @@ marked-beyond mark held name clock words =
 
     named : held < most_jobs → drop width (with_name held name words) ≡ drop width words
     named l =
-        let none = to_bits binary64 never in
-        drop-set-lt width (slice_set (slice_set words held name) (starts_at + held) none) (stops_at + held) none (omega arith)
-        ∙ drop-set-lt width (slice_set words held name) (starts_at + held) none (omega arith)
+        let None = to_bits binary64 never in
+        drop-set-lt width (slice_set (slice_set words held name) (starts_at + held) None) (stops_at + held) None (omega arith)
+        ∙ drop-set-lt width (slice_set words held name) (starts_at + held) None (omega arith)
         ∙ drop-set-lt width words held name (omega arith)
 
 -- an answer that refuses leaves the words as they are

@@ -1,7 +1,6 @@
 -- The laws of the loops: one job more, the end, and what a test showed. Assumes nothing.
-use Rattle.std.specs.Prelude.{◌≡◌, ℕ, zero, suc, ◌+◌, ◌-◌, ◌*◌, ◌^◌, ◌<◌, ◌≤◌, Bool, true, false, not, ◌&&◌, T, List, [], ◌∷◌, map, length, pos, ◌==◌, ◌≢◌, nat_eq, slice_index, refl, Float, if◌then◌else◌, None, Some}
+use Rattle.std.specs.Prelude.{◌≡◌, ℕ, zero, suc, ◌+◌, ◌-◌, ◌*◌, ◌^◌, ◌<◌, ◌≤◌, Bool, true, false, not, ◌&&◌, T, List, [], ◌∷◌, map, length, pos, ◌==◌, ◌≢◌, nat_eq, slice_index, refl, Float, if◌then◌else◌, None, Some, Option}
 use Rattle.std.proofs.Common.{sym, ap, ◌∙◌, subst, arith, div-one, lt-ltb, le-ltb}
-use Rattle.std.proofs.Math.Option.{Option, none, some}
 use Rattle.std.specs.Float.{binary64}
 use Rattle.std.specs.Float.Ieee.{add, div, of_int}
 use Rattle.std.specs.Float.Ieee.Bits.{is_true}
@@ -37,11 +36,11 @@ unfolding lasting_at durations_from
 durations-next words k n = go (mark_in (slice_index words (starts_at + k))) (mark_in (slice_index words (stops_at + k)))
   where
     go : (start stop : Option Float)
-        → elim (between (slice_index words k) start stop) [ none ↦ durations_from words (suc k) n | some d ↦ d ∷ durations_from words (suc k) n ]
+        → elim (between (slice_index words k) start stop) [ None ↦ durations_from words (suc k) n | Some d ↦ d ∷ durations_from words (suc k) n ]
         ≡ joined (slice_index words k) (lasting_of start stop) (durations_from words (suc k) n)
-    go none stop = refl
-    go (some start) none = refl
-    go (some start) (some stop) = refl
+    go None stop = refl
+    go (Some start) None = refl
+    go (Some start) (Some stop) = refl
 
 pub best-next : (metric : Metric) (words : List ℕ) (best : Best) (k n : ℕ) → best_from metric words best k (suc n) ≡ best_from metric words (better_at metric words best k) (suc k) n
 unfolding best_from better_at

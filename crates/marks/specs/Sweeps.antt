@@ -1,6 +1,5 @@
 -- What the parts of `fetch`, `mean` and `fit` answer, from a place on. Assumes nothing.
-use Rattle.std.specs.Prelude.{ℕ, zero, suc, ◌+◌, Bool, true, not, ◌&&◌, List, [], ◌∷◌, map, length, ◌==◌, slice_index, Float, if◌then◌else◌, None, Some}
-use Rattle.std.proofs.Math.Option.{Option, none, some}
+use Rattle.std.specs.Prelude.{ℕ, zero, suc, ◌+◌, Bool, true, not, ◌&&◌, List, [], ◌∷◌, map, length, ◌==◌, slice_index, Float, if◌then◌else◌, None, Some, Option}
 use Rattle.std.specs.Float.{binary64}
 use Rattle.std.specs.Float.Ieee.{sub, add}
 use Rattle.times.specs.Time.{instant}
@@ -17,9 +16,9 @@ use Rattle.marks.specs.Jobs.{starts_at, stops_at, mark_in, mark_fits, job_at, fi
 
 -- ---- durations
 abbrev pub lasting_of : Option Float → Option Float → Option Float
-lasting_of none stop = None
-lasting_of (some start) none = None
-lasting_of (some start) (some stop) = Some (sub binary64 stop start)
+lasting_of None stop = None
+lasting_of (Some start) None = None
+lasting_of (Some start) (Some stop) = Some (sub binary64 stop start)
 
 unfoldable pub lasting_at : List ℕ → ℕ → Option Float
 lasting_at words k = lasting_of (mark_in (slice_index words (starts_at + k))) (mark_in (slice_index words (stops_at + k)))

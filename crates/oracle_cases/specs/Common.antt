@@ -1,6 +1,5 @@
 -- What the cases are written in: tables, calls and answers in short words, with every time by its bits. Definitions only. Assumes nothing.
-use Rattle.std.specs.Prelude.{ℕ, zero, suc, List, [], ◌∷◌, ◌++◌, map, Float}
-use Rattle.std.proofs.Math.Option.{Option, none, some}
+use Rattle.std.specs.Prelude.{ℕ, zero, suc, List, [], ◌∷◌, ◌++◌, map, Float, Option, None, Some}
 use Rattle.std.specs.Float.{binary64}
 use Rattle.std.specs.Float.Ieee.{add, sub, div, of_int, lt, le, eq, fits, of_bits, to_bits}
 use Rattle.times.specs.Time.{instant, is_time, is_timer, least_of}
@@ -36,8 +35,8 @@ inf = 0x7ff0000000000000
 
 -- ---- a table: id, parent (0: none), ports, settings
 abbrev pub parent_of : ℕ → Option ℕ
-parent_of zero = none
-parent_of (suc n) = some (suc n)
+parent_of zero = None
+parent_of (suc n) = Some (suc n)
 
 abbrev pub row_of : ℕ → ℕ → Kind → Row
 row_of id parent kind = record { id = id; parent = parent_of parent; kind = kind }
@@ -80,7 +79,7 @@ abbrev pub inner : ℕ → ℕ → ℕ → ℕ → ℕ → Coupling
 inner = internal_coupling
 
 abbrev pub table_of : List Row → List Connector → List Coupling → Posted
-table_of rows links couplings = record { rows = map some rows; connectors = map some links; couplings = map some couplings }
+table_of rows links couplings = record { rows = map Some rows; connectors = map Some links; couplings = map Some couplings }
 
 -- ---- the calls
 pub data Act : Type 0 where
@@ -110,8 +109,8 @@ abbrev pub Mark : Type 0
 Mark = ℕ × Option ℕ × Option ℕ
 
 abbrev pub mark_bits : Option Float → Option ℕ
-mark_bits none = none
-mark_bits (some x) = some (bits_of x)
+mark_bits None = None
+mark_bits (Some x) = Some (bits_of x)
 
 abbrev pub mark_of : Marks → Mark
 mark_of m = (m.name, mark_bits m.start, mark_bits m.stop)

@@ -1,6 +1,5 @@
 -- Answers of the oracle, computed over the rules: cases 1 to 25. The number above a case is its script's (--show). Written by oracle/write_cases.py. Assumes nothing.
-use Rattle.std.specs.Prelude.{ℕ, ◌≡◌, refl, List, [], ◌∷◌}
-use Rattle.std.proofs.Math.Option.{Option, none, some}
+use Rattle.std.specs.Prelude.{ℕ, ◌≡◌, refl, List, [], ◌∷◌, Option, None, Some}
 use Rattle.rules.specs.declared.ProcessorPhase.TheVariants as working
 use Rattle.rules.specs.declared.BatcherPhase.TheVariants as batching
 use Rattle.rules.specs.Calls.{OfProcessor, OfBatcher, Mean, ParkedCount}
@@ -13,7 +12,7 @@ pub case-001 :
     (inject 0 0 7 1000 0x4010000000000000 3 ∷ job 4 32768 1 ∷ job 4 32768 1 ∷ job 4 32768 2 ∷ inject 0 0 6 65535 0x3e112e0be826d695 2 ∷ job 4 32768 1 ∷ job 6 1000 1 ∷ job 7 32768 3 ∷ until 0x3ff0000000000000 3 ∷ [])
     ≡ seen
     (spent 3 ((7, 65534, 5, 65534, 0, 3) ∷ (7, 65534, 5, 1000, 0, 3) ∷ (7, 65534, 5, 65534, 0, 3) ∷ (7, 65534, 5, 1000, 0, 3) ∷ (4, 32768, 1, 65535, 0x3fd5555555555555, 1) ∷ (4, 32768, 6, 65535, 0x3fd5555555555555, 1) ∷ []) 0x3fd5555555555555 1 ∷ [])
-    (s_passive inf ((2, none, some 0) ∷ []) ∷ b0 ∷ p_passive 0 [] ∷ b0 ∷ c0 ∷ []) ((4, 32768, 1, 65535, 0x3fd5555555555555, 1) ∷ (4, 32768, 6, 65535, 0x3fd5555555555555, 1) ∷ [])
+    (s_passive inf ((2, None, Some 0) ∷ []) ∷ b0 ∷ p_passive 0 [] ∷ b0 ∷ c0 ∷ []) ((4, 32768, 1, 65535, 0x3fd5555555555555, 1) ∷ (4, 32768, 6, 65535, 0x3fd5555555555555, 1) ∷ [])
 unfolding play
 case-001 = refl
 
@@ -23,8 +22,8 @@ pub case-002 :
     (0x3ff0000000000000 ∷ [])
     (inject 0 0 4 1 0x3fb999999999999a 1 ∷ job 1 4 1 ∷ job 9 1 1 ∷ step ∷ look ∷ step ∷ look ∷ step ∷ [])
     ≡ seen
-    (ran 1 [] 0 0 ∷ holds (b_batching 0x3fd3333333333333 (1 ∷ []) ∷ s_passive inf ((1, none, some 0) ∷ []) ∷ c0 ∷ []) [] ∷ ran 1 ((4, 2, 1, 65000, 0x3fd3333333333333, 1) ∷ []) 0x3fd3333333333333 0 ∷ holds (b0 ∷ s_passive inf ((1, none, some 0) ∷ []) ∷ c0 ∷ []) ((4, 2, 1, 65000, 0x3fd3333333333333, 1) ∷ []) ∷ stopped 5 0 [] 0x3fd3333333333333 0 ∷ [])
-    (b0 ∷ s_passive inf ((1, none, some 0) ∷ []) ∷ c0 ∷ []) ((4, 2, 1, 65000, 0x3fd3333333333333, 1) ∷ [])
+    (ran 1 [] 0 0 ∷ holds (b_batching 0x3fd3333333333333 (1 ∷ []) ∷ s_passive inf ((1, None, Some 0) ∷ []) ∷ c0 ∷ []) [] ∷ ran 1 ((4, 2, 1, 65000, 0x3fd3333333333333, 1) ∷ []) 0x3fd3333333333333 0 ∷ holds (b0 ∷ s_passive inf ((1, None, Some 0) ∷ []) ∷ c0 ∷ []) ((4, 2, 1, 65000, 0x3fd3333333333333, 1) ∷ []) ∷ stopped 5 0 [] 0x3fd3333333333333 0 ∷ [])
+    (b0 ∷ s_passive inf ((1, None, Some 0) ∷ []) ∷ c0 ∷ []) ((4, 2, 1, 65000, 0x3fd3333333333333, 1) ∷ [])
 unfolding play
 case-002 = refl
 
@@ -34,8 +33,8 @@ pub case-003 :
     (0x3ff0000000000000 ∷ [])
     (job 6 3 1 ∷ job 9 1 3 ∷ job 6 3 1 ∷ inject 65535 3 9 4 0x0000000000000001 1 ∷ step ∷ look ∷ inject 0 0 3 1 0x401c000000000000 1 ∷ until 0 2 ∷ look ∷ step ∷ look ∷ job 3 4 1 ∷ job 3 2 1 ∷ reset ∷ job 9 1 3 ∷ step ∷ look ∷ inject 65535 3 6 2 0x3fd2492492492492 3 ∷ steps 0 ∷ look ∷ until 0x3fb999999999999a 1 ∷ [])
     ≡ seen
-    (ran 1 [] 0 0 ∷ holds (b0 ∷ s_passive inf ((1, none, some 0) ∷ []) ∷ c0 ∷ c0 ∷ []) [] ∷ reached 1 [] 0 0 ∷ holds (b0 ∷ s_passive inf ((1, none, some 0) ∷ []) ∷ c0 ∷ c0 ∷ []) ((3, 1, 9, 2, 0, 1) ∷ []) ∷ ran 1 [] 0 0 ∷ holds (b0 ∷ s_passive inf ((1, none, some 0) ∷ []) ∷ c0 ∷ c0 ∷ []) [] ∷ ran 1 [] 0 0 ∷ holds (b0 ∷ s_passive inf ((1, none, some 0) ∷ []) ∷ c0 ∷ c0 ∷ []) [] ∷ ran 0 [] 0 0 ∷ holds (b0 ∷ s_passive inf ((1, none, some 0) ∷ []) ∷ c0 ∷ c0 ∷ []) ((65535, 3, 6, 2, 0x3fd2492492492492, 3) ∷ []) ∷ spent 1 [] 0 0 ∷ [])
-    (b0 ∷ s_passive inf ((1, none, some 0) ∷ (3, some 0, none) ∷ []) ∷ c0 ∷ c0 ∷ []) []
+    (ran 1 [] 0 0 ∷ holds (b0 ∷ s_passive inf ((1, None, Some 0) ∷ []) ∷ c0 ∷ c0 ∷ []) [] ∷ reached 1 [] 0 0 ∷ holds (b0 ∷ s_passive inf ((1, None, Some 0) ∷ []) ∷ c0 ∷ c0 ∷ []) ((3, 1, 9, 2, 0, 1) ∷ []) ∷ ran 1 [] 0 0 ∷ holds (b0 ∷ s_passive inf ((1, None, Some 0) ∷ []) ∷ c0 ∷ c0 ∷ []) [] ∷ ran 1 [] 0 0 ∷ holds (b0 ∷ s_passive inf ((1, None, Some 0) ∷ []) ∷ c0 ∷ c0 ∷ []) [] ∷ ran 0 [] 0 0 ∷ holds (b0 ∷ s_passive inf ((1, None, Some 0) ∷ []) ∷ c0 ∷ c0 ∷ []) ((65535, 3, 6, 2, 0x3fd2492492492492, 3) ∷ []) ∷ spent 1 [] 0 0 ∷ [])
+    (b0 ∷ s_passive inf ((1, None, Some 0) ∷ (3, Some 0, None) ∷ []) ∷ c0 ∷ c0 ∷ []) []
 unfolding play
 case-003 = refl
 
@@ -56,8 +55,8 @@ pub case-005 :
     (0 ∷ 0x3fd2492492492492 ∷ 0x3ff0000000000000 ∷ 0x3fd3333333333333 ∷ 0x3fe6666666666666 ∷ 0x3fd2492492492492 ∷ [])
     (job 3 2 1 ∷ job 9 1 3 ∷ job 7 1 3 ∷ until 0 1 ∷ look ∷ step ∷ look ∷ steps 4 ∷ [])
     ≡ seen
-    (reached 1 [] 0 1 ∷ holds (p0 ∷ p0 ∷ b0 ∷ p0 ∷ s0 ∷ b0 ∷ p_passive 0 [] ∷ []) ((3, 1, 9, 1, 0, 1) ∷ (9, 1, 6, 1, 0, 3) ∷ (9, 1, 2, 4, 0, 3) ∷ (9, 1, 8, 1, 0, 3) ∷ (9, 1, 2, 2, 0, 3) ∷ []) ∷ ran 1 [] 0 4 ∷ holds (p_active 0x3fd2492492492492 (3 ∷ []) ∷ p_active 0x3ff0000000000000 (3 ∷ []) ∷ b0 ∷ p0 ∷ s_passive inf ((3, some 0, none) ∷ []) ∷ b0 ∷ p_active 0x3fd3333333333333 (1 ∷ []) ∷ []) [] ∷ ran 4 ((8, 1, 4, 1, 0x3fd2492492492492, 3) ∷ (9, 1, 6, 1, 0x3fd3333333333333, 1) ∷ (9, 1, 2, 4, 0x3fd3333333333333, 1) ∷ (9, 1, 8, 1, 0x3fd3333333333333, 1) ∷ (9, 1, 2, 2, 0x3fd3333333333333, 1) ∷ []) 0x3fd3333333333333 6 ∷ [])
-    (p_active 0x3fd2492492492492 (1 ∷ []) ∷ p_active 0x3fe6666666666666 (3 ∷ 1 ∷ []) ∷ b0 ∷ p_active 0x3fe5f15f15f15f16 (3 ∷ []) ∷ s_passive inf ((3, some 0, none) ∷ (1, some 0x3fd3333333333333, none) ∷ []) ∷ b0 ∷ p0 ∷ []) []
+    (reached 1 [] 0 1 ∷ holds (p0 ∷ p0 ∷ b0 ∷ p0 ∷ s0 ∷ b0 ∷ p_passive 0 [] ∷ []) ((3, 1, 9, 1, 0, 1) ∷ (9, 1, 6, 1, 0, 3) ∷ (9, 1, 2, 4, 0, 3) ∷ (9, 1, 8, 1, 0, 3) ∷ (9, 1, 2, 2, 0, 3) ∷ []) ∷ ran 1 [] 0 4 ∷ holds (p_active 0x3fd2492492492492 (3 ∷ []) ∷ p_active 0x3ff0000000000000 (3 ∷ []) ∷ b0 ∷ p0 ∷ s_passive inf ((3, Some 0, None) ∷ []) ∷ b0 ∷ p_active 0x3fd3333333333333 (1 ∷ []) ∷ []) [] ∷ ran 4 ((8, 1, 4, 1, 0x3fd2492492492492, 3) ∷ (9, 1, 6, 1, 0x3fd3333333333333, 1) ∷ (9, 1, 2, 4, 0x3fd3333333333333, 1) ∷ (9, 1, 8, 1, 0x3fd3333333333333, 1) ∷ (9, 1, 2, 2, 0x3fd3333333333333, 1) ∷ []) 0x3fd3333333333333 6 ∷ [])
+    (p_active 0x3fd2492492492492 (1 ∷ []) ∷ p_active 0x3fe6666666666666 (3 ∷ 1 ∷ []) ∷ b0 ∷ p_active 0x3fe5f15f15f15f16 (3 ∷ []) ∷ s_passive inf ((3, Some 0, None) ∷ (1, Some 0x3fd3333333333333, None) ∷ []) ∷ b0 ∷ p0 ∷ []) []
 unfolding play
 case-005 = refl
 
@@ -89,8 +88,8 @@ pub case-008 :
     (0x401c000000000000 ∷ 0x3fb999999999999a ∷ [])
     (job 5 1 2 ∷ job 9 1 3 ∷ job 9 1 3 ∷ job 2 1 1 ∷ inject 65535 3 9 4 0x3fd5555555555555 2 ∷ inject 65535 3 8 1 0 3 ∷ job 5 4 1 ∷ steps 3 ∷ look ∷ inject 65535 3 9 3 0 3 ∷ inject 0 0 2 3 0x3fb999999999999a 3 ∷ inject 0 0 9 3 0x3ff0000000000000 3 ∷ job 5 2 1 ∷ job 5 2 1 ∷ steps 3 ∷ [])
     ≡ seen
-    (ran 3 ((8, 1, 5, 1, 0x401c000000000000, 3) ∷ (8, 1, 6, 4, 0x401c000000000000, 3) ∷ (8, 1, 9, 4, 0x401c000000000000, 3) ∷ []) 0x401c000000000000 1 ∷ holds (s_passive inf ((1, some 0, none) ∷ []) ∷ s_passive inf ((1, none, some 0) ∷ []) ∷ p0 ∷ s_passive inf ((2, none, some 0) ∷ (3, none, some 0x401c000000000000) ∷ []) ∷ b_batching 0x4010000000000000 (3 ∷ []) ∷ []) [] ∷ ran 3 ((6, 1, 5, 4, 0x4026000000000000, 3) ∷ (6, 1, 99, 1, 0x4026000000000000, 3) ∷ (6, 1, 2, 2, 0x4026000000000000, 3) ∷ []) 0x4026000000000000 1 ∷ [])
-    (s_passive inf ((1, some 0, none) ∷ (3, none, some 0x401c000000000000) ∷ []) ∷ s_passive inf ((1, some 0x401c000000000000, some 0) ∷ (3, none, some 0x4026000000000000) ∷ []) ∷ p0 ∷ s_passive inf ((2, none, some 0) ∷ (3, some 0x401c000000000000, some 0x401c000000000000) ∷ []) ∷ b0 ∷ []) []
+    (ran 3 ((8, 1, 5, 1, 0x401c000000000000, 3) ∷ (8, 1, 6, 4, 0x401c000000000000, 3) ∷ (8, 1, 9, 4, 0x401c000000000000, 3) ∷ []) 0x401c000000000000 1 ∷ holds (s_passive inf ((1, Some 0, None) ∷ []) ∷ s_passive inf ((1, None, Some 0) ∷ []) ∷ p0 ∷ s_passive inf ((2, None, Some 0) ∷ (3, None, Some 0x401c000000000000) ∷ []) ∷ b_batching 0x4010000000000000 (3 ∷ []) ∷ []) [] ∷ ran 3 ((6, 1, 5, 4, 0x4026000000000000, 3) ∷ (6, 1, 99, 1, 0x4026000000000000, 3) ∷ (6, 1, 2, 2, 0x4026000000000000, 3) ∷ []) 0x4026000000000000 1 ∷ [])
+    (s_passive inf ((1, Some 0, None) ∷ (3, None, Some 0x401c000000000000) ∷ []) ∷ s_passive inf ((1, Some 0x401c000000000000, Some 0) ∷ (3, None, Some 0x4026000000000000) ∷ []) ∷ p0 ∷ s_passive inf ((2, None, Some 0) ∷ (3, Some 0x401c000000000000, Some 0x401c000000000000) ∷ []) ∷ b0 ∷ []) []
 unfolding play
 case-008 = refl
 
@@ -101,7 +100,7 @@ pub case-009 :
     (inject 5 3 3 1 0x3ff0000000000000 4294967295 ∷ step ∷ look ∷ job 1 2 7 ∷ job 9 4 2147483648 ∷ inject 0 0 7 1 0x3fe6666666666666 4294967295 ∷ inject 5 3 5 1 0 4294967295 ∷ job 5 1 0 ∷ step ∷ look ∷ job 9 3 2147483648 ∷ job 1 2 0 ∷ until 0x3ff0000000000000 3 ∷ [])
     ≡ seen
     (ran 1 [] 0 1 ∷ holds (p_active 0x3fd5555555555555 (4294967295 ∷ []) ∷ s0 ∷ p0 ∷ p0 ∷ b0 ∷ b0 ∷ s0 ∷ []) [] ∷ ran 1 ((9, 2, 1, 4, 0, 2147483648) ∷ (9, 2, 4, 1, 0, 2147483648) ∷ []) 0 3 ∷ holds (p_active 0x3fd5555555555555 (4294967295 ∷ []) ∷ s0 ∷ p_active 0x4004000000000000 (4294967295 ∷ 0 ∷ []) ∷ p_active 0x401c000000000000 (4294967295 ∷ []) ∷ b_batching 0x3ff0000000000000 (7 ∷ []) ∷ b0 ∷ s0 ∷ []) ((9, 2, 1, 4, 0, 2147483648) ∷ (9, 2, 4, 1, 0, 2147483648) ∷ []) ∷ spent 3 ((9, 2, 1, 4, 0, 2147483648) ∷ (9, 2, 4, 1, 0, 2147483648) ∷ (1, 2, 99, 1, 0, 7) ∷ (1, 2, 7, 1, 0, 7) ∷ (1, 2, 8, 4, 0, 7) ∷ (1, 2, 99, 1, 0, 2147483648) ∷ (1, 2, 7, 1, 0, 2147483648) ∷ (1, 2, 8, 4, 0, 2147483648) ∷ (1, 2, 99, 1, 0, 0) ∷ (1, 2, 7, 1, 0, 0) ∷ (1, 2, 8, 4, 0, 0) ∷ (1, 2, 99, 1, 0, 2147483648) ∷ (1, 2, 7, 1, 0, 2147483648) ∷ (1, 2, 8, 4, 0, 2147483648) ∷ []) 0 3 ∷ [])
-    (p_active 0x3fd5555555555555 (4294967295 ∷ []) ∷ s0 ∷ p_active 0x4004000000000000 (4294967295 ∷ 0 ∷ []) ∷ p_active 0x401c000000000000 (4294967295 ∷ []) ∷ b0 ∷ b0 ∷ s_passive inf ((7, some 0, none) ∷ (2147483648, some 0, none) ∷ (0, some 0, none) ∷ []) ∷ []) []
+    (p_active 0x3fd5555555555555 (4294967295 ∷ []) ∷ s0 ∷ p_active 0x4004000000000000 (4294967295 ∷ 0 ∷ []) ∷ p_active 0x401c000000000000 (4294967295 ∷ []) ∷ b0 ∷ b0 ∷ s_passive inf ((7, Some 0, None) ∷ (2147483648, Some 0, None) ∷ (0, Some 0, None) ∷ []) ∷ []) []
 unfolding play
 case-009 = refl
 
@@ -111,8 +110,8 @@ pub case-010 :
     (0x3fb999999999999a ∷ 0 ∷ 0x3fd5555555555555 ∷ 0x4010000000000000 ∷ [])
     (job 9 1 4294967295 ∷ inject 0 0 2 1 0x3ff0000000000000 2147483648 ∷ inject 65535 3 8 3 0 0 ∷ job 9 1 0 ∷ job 97 1 4294967295 ∷ step ∷ look ∷ steps 3 ∷ look ∷ inject 0 0 8 3 0x4010000000000000 7 ∷ steps 2 ∷ look ∷ job 2 1 0 ∷ job 9 1 0 ∷ until 0x4020333333333333 2 ∷ [])
     ≡ seen
-    (ran 1 ((2, 2, 6, 3, 0, 2147483648) ∷ (2, 2, 8, 4, 0, 2147483648) ∷ []) 0 2 ∷ holds (b0 ∷ p_active 0x3fb999999999999a (4294967295 ∷ []) ∷ s0 ∷ b_batching 0x4010000000000000 (0 ∷ []) ∷ p_passive 0 [] ∷ p0 ∷ []) ((2, 2, 6, 3, 0, 2147483648) ∷ (2, 2, 8, 4, 0, 2147483648) ∷ []) ∷ ran 3 ((9, 2, 6, 3, 0x3fb999999999999a, 4294967295) ∷ []) 0x3fb999999999999a 2 ∷ holds (b0 ∷ p0 ∷ s_passive inf ((2147483648, none, some 0) ∷ (4294967295, none, some 0x3fb999999999999a) ∷ []) ∷ b0 ∷ p0 ∷ p0 ∷ []) [] ∷ ran 2 [] 0x4010666666666666 2 ∷ holds (b0 ∷ p0 ∷ s_passive inf ((2147483648, none, some 0) ∷ (4294967295, none, some 0x3fb999999999999a) ∷ []) ∷ b0 ∷ p0 ∷ p0 ∷ []) [] ∷ spent 2 ((9, 2, 6, 3, 0x4011bbbbbbbbbbbb, 0) ∷ []) 0x4011bbbbbbbbbbbb 4 ∷ [])
-    (b0 ∷ p_passive 0 [] ∷ s_passive inf ((2147483648, none, some 0) ∷ (4294967295, none, some 0x3fb999999999999a) ∷ []) ∷ b0 ∷ p_active 0x400d555555555555 (0 ∷ []) ∷ p0 ∷ []) ((9, 2, 6, 3, 0x4011bbbbbbbbbbbb, 0) ∷ [])
+    (ran 1 ((2, 2, 6, 3, 0, 2147483648) ∷ (2, 2, 8, 4, 0, 2147483648) ∷ []) 0 2 ∷ holds (b0 ∷ p_active 0x3fb999999999999a (4294967295 ∷ []) ∷ s0 ∷ b_batching 0x4010000000000000 (0 ∷ []) ∷ p_passive 0 [] ∷ p0 ∷ []) ((2, 2, 6, 3, 0, 2147483648) ∷ (2, 2, 8, 4, 0, 2147483648) ∷ []) ∷ ran 3 ((9, 2, 6, 3, 0x3fb999999999999a, 4294967295) ∷ []) 0x3fb999999999999a 2 ∷ holds (b0 ∷ p0 ∷ s_passive inf ((2147483648, None, Some 0) ∷ (4294967295, None, Some 0x3fb999999999999a) ∷ []) ∷ b0 ∷ p0 ∷ p0 ∷ []) [] ∷ ran 2 [] 0x4010666666666666 2 ∷ holds (b0 ∷ p0 ∷ s_passive inf ((2147483648, None, Some 0) ∷ (4294967295, None, Some 0x3fb999999999999a) ∷ []) ∷ b0 ∷ p0 ∷ p0 ∷ []) [] ∷ spent 2 ((9, 2, 6, 3, 0x4011bbbbbbbbbbbb, 0) ∷ []) 0x4011bbbbbbbbbbbb 4 ∷ [])
+    (b0 ∷ p_passive 0 [] ∷ s_passive inf ((2147483648, None, Some 0) ∷ (4294967295, None, Some 0x3fb999999999999a) ∷ []) ∷ b0 ∷ p_active 0x400d555555555555 (0 ∷ []) ∷ p0 ∷ []) ((9, 2, 6, 3, 0x4011bbbbbbbbbbbb, 0) ∷ [])
 unfolding play
 case-010 = refl
 
@@ -221,8 +220,8 @@ pub case-020 :
     (0x3fb999999999999a ∷ 0x4004000000000000 ∷ 0x4004000000000000 ∷ 0x401c000000000000 ∷ 0x4010000000000000 ∷ 0x3fb999999999999a ∷ [])
     (job 7 2 1 ∷ job 5 1 1 ∷ job 8 3 1 ∷ inject 0 0 2 1 0x3fb999999999999a 2 ∷ job 8 1 3 ∷ until 0x4010000000000000 7 ∷ look ∷ step ∷ look ∷ step ∷ look ∷ steps 0 ∷ look ∷ job 8 4 1 ∷ step ∷ look ∷ reset-messages ∷ step ∷ [])
     ≡ seen
-    (reached 7 ((5, 2, 7, 2, 0x3fb999999999999a, 1) ∷ (5, 2, 99, 4, 0x3fb999999999999a, 1) ∷ (5, 2, 8, 4, 0x3fb999999999999a, 1) ∷ (5, 2, 8, 1, 0x3fb999999999999a, 1) ∷ (8, 2, 6, 4, 0x3fb999999999999a, 1) ∷ (2, 1, 6, 4, 0x4004000000000000, 2) ∷ (2, 1, 6, 3, 0x4004000000000000, 2) ∷ []) 0x4028b0a3d70a3d71 2 ∷ holds (s_passive inf ((1, some 0, some 0x3fb999999999999a) ∷ (3, none, some 0) ∷ []) ∷ p0 ∷ b0 ∷ p0 ∷ p0 ∷ p0 ∷ s_passive inf ((1, some 0x3fb999999999999a, none) ∷ (2, some 0x4004000000000000, none) ∷ []) ∷ []) ((7, 1, 2, 1, 0x4028b0a3d70a3d71, 1) ∷ (7, 1, 2, 1, 0x4028b0a3d70a3d71, 1) ∷ (7, 1, 4, 1, 0x4028b0a3d70a3d71, 1) ∷ (7, 1, 2, 1, 0x4028b0a3d70a3d71, 1) ∷ (7, 1, 2, 1, 0x4028b0a3d70a3d71, 1) ∷ (7, 1, 4, 1, 0x4028b0a3d70a3d71, 1) ∷ []) ∷ ran 1 [] 0x4028b0a3d70a3d71 4 ∷ holds (s_passive inf ((1, some 0, some 0x3fb999999999999a) ∷ (3, none, some 0) ∷ []) ∷ p0 ∷ b0 ∷ p0 ∷ p_active 0x4004000000000000 (1 ∷ 1 ∷ 1 ∷ 1 ∷ []) ∷ p_active 0x401c000000000000 (1 ∷ 1 ∷ []) ∷ s_passive inf ((1, some 0x3fb999999999999a, none) ∷ (2, some 0x4004000000000000, none) ∷ []) ∷ []) [] ∷ ran 1 ((2, 1, 6, 4, 0x402db0a3d70a3d71, 1) ∷ (2, 1, 6, 3, 0x402db0a3d70a3d71, 1) ∷ []) 0x402db0a3d70a3d71 4 ∷ holds (s_passive inf ((1, some 0, some 0x3fb999999999999a) ∷ (3, none, some 0) ∷ []) ∷ p0 ∷ b0 ∷ p0 ∷ p_passive 0 (1 ∷ 1 ∷ 1 ∷ []) ∷ p_active 0x4012000000000000 (1 ∷ 1 ∷ []) ∷ s_passive inf ((1, some 0x3fb999999999999a, none) ∷ (2, some 0x4004000000000000, none) ∷ []) ∷ []) ((2, 1, 6, 4, 0x402db0a3d70a3d71, 1) ∷ (2, 1, 6, 3, 0x402db0a3d70a3d71, 1) ∷ []) ∷ ran 0 [] 0x402db0a3d70a3d71 4 ∷ holds (s_passive inf ((1, some 0, some 0x3fb999999999999a) ∷ (3, none, some 0) ∷ []) ∷ p0 ∷ b0 ∷ p0 ∷ p_passive 0 (1 ∷ 1 ∷ 1 ∷ []) ∷ p_active 0x4012000000000000 (1 ∷ 1 ∷ []) ∷ s_passive inf ((1, some 0x3fb999999999999a, none) ∷ (2, some 0x4004000000000000, none) ∷ []) ∷ []) ((2, 1, 6, 4, 0x402db0a3d70a3d71, 1) ∷ (2, 1, 6, 3, 0x402db0a3d70a3d71, 1) ∷ []) ∷ ran 1 ((8, 2, 6, 4, 0x402db0a3d70a3d71, 1) ∷ []) 0x402db0a3d70a3d71 5 ∷ holds (s_passive inf ((1, some 0, some 0x3fb999999999999a) ∷ (3, none, some 0) ∷ []) ∷ p0 ∷ b0 ∷ p0 ∷ p_active 0x4010000000000000 (1 ∷ 1 ∷ 1 ∷ []) ∷ p_active 0x4012000000000000 (1 ∷ 1 ∷ []) ∷ s_passive inf ((1, some 0x402db0a3d70a3d71, none) ∷ (2, some 0x4004000000000000, none) ∷ []) ∷ []) ((8, 2, 6, 4, 0x402db0a3d70a3d71, 1) ∷ []) ∷ ran 1 ((2, 1, 6, 4, 0x4032d851eb851eb8, 1) ∷ (2, 1, 6, 3, 0x4032d851eb851eb8, 1) ∷ []) 0x4032d851eb851eb8 5 ∷ [])
-    (s_passive inf ((1, some 0, some 0x3fb999999999999a) ∷ (3, none, some 0) ∷ []) ∷ p0 ∷ b0 ∷ p0 ∷ p_passive 0 (1 ∷ 1 ∷ []) ∷ p_active 0x3fe0000000000000 (1 ∷ 1 ∷ []) ∷ s_passive inf ((1, some 0x402db0a3d70a3d71, none) ∷ (2, some 0x4004000000000000, none) ∷ []) ∷ []) ((2, 1, 6, 4, 0x4032d851eb851eb8, 1) ∷ (2, 1, 6, 3, 0x4032d851eb851eb8, 1) ∷ [])
+    (reached 7 ((5, 2, 7, 2, 0x3fb999999999999a, 1) ∷ (5, 2, 99, 4, 0x3fb999999999999a, 1) ∷ (5, 2, 8, 4, 0x3fb999999999999a, 1) ∷ (5, 2, 8, 1, 0x3fb999999999999a, 1) ∷ (8, 2, 6, 4, 0x3fb999999999999a, 1) ∷ (2, 1, 6, 4, 0x4004000000000000, 2) ∷ (2, 1, 6, 3, 0x4004000000000000, 2) ∷ []) 0x4028b0a3d70a3d71 2 ∷ holds (s_passive inf ((1, Some 0, Some 0x3fb999999999999a) ∷ (3, None, Some 0) ∷ []) ∷ p0 ∷ b0 ∷ p0 ∷ p0 ∷ p0 ∷ s_passive inf ((1, Some 0x3fb999999999999a, None) ∷ (2, Some 0x4004000000000000, None) ∷ []) ∷ []) ((7, 1, 2, 1, 0x4028b0a3d70a3d71, 1) ∷ (7, 1, 2, 1, 0x4028b0a3d70a3d71, 1) ∷ (7, 1, 4, 1, 0x4028b0a3d70a3d71, 1) ∷ (7, 1, 2, 1, 0x4028b0a3d70a3d71, 1) ∷ (7, 1, 2, 1, 0x4028b0a3d70a3d71, 1) ∷ (7, 1, 4, 1, 0x4028b0a3d70a3d71, 1) ∷ []) ∷ ran 1 [] 0x4028b0a3d70a3d71 4 ∷ holds (s_passive inf ((1, Some 0, Some 0x3fb999999999999a) ∷ (3, None, Some 0) ∷ []) ∷ p0 ∷ b0 ∷ p0 ∷ p_active 0x4004000000000000 (1 ∷ 1 ∷ 1 ∷ 1 ∷ []) ∷ p_active 0x401c000000000000 (1 ∷ 1 ∷ []) ∷ s_passive inf ((1, Some 0x3fb999999999999a, None) ∷ (2, Some 0x4004000000000000, None) ∷ []) ∷ []) [] ∷ ran 1 ((2, 1, 6, 4, 0x402db0a3d70a3d71, 1) ∷ (2, 1, 6, 3, 0x402db0a3d70a3d71, 1) ∷ []) 0x402db0a3d70a3d71 4 ∷ holds (s_passive inf ((1, Some 0, Some 0x3fb999999999999a) ∷ (3, None, Some 0) ∷ []) ∷ p0 ∷ b0 ∷ p0 ∷ p_passive 0 (1 ∷ 1 ∷ 1 ∷ []) ∷ p_active 0x4012000000000000 (1 ∷ 1 ∷ []) ∷ s_passive inf ((1, Some 0x3fb999999999999a, None) ∷ (2, Some 0x4004000000000000, None) ∷ []) ∷ []) ((2, 1, 6, 4, 0x402db0a3d70a3d71, 1) ∷ (2, 1, 6, 3, 0x402db0a3d70a3d71, 1) ∷ []) ∷ ran 0 [] 0x402db0a3d70a3d71 4 ∷ holds (s_passive inf ((1, Some 0, Some 0x3fb999999999999a) ∷ (3, None, Some 0) ∷ []) ∷ p0 ∷ b0 ∷ p0 ∷ p_passive 0 (1 ∷ 1 ∷ 1 ∷ []) ∷ p_active 0x4012000000000000 (1 ∷ 1 ∷ []) ∷ s_passive inf ((1, Some 0x3fb999999999999a, None) ∷ (2, Some 0x4004000000000000, None) ∷ []) ∷ []) ((2, 1, 6, 4, 0x402db0a3d70a3d71, 1) ∷ (2, 1, 6, 3, 0x402db0a3d70a3d71, 1) ∷ []) ∷ ran 1 ((8, 2, 6, 4, 0x402db0a3d70a3d71, 1) ∷ []) 0x402db0a3d70a3d71 5 ∷ holds (s_passive inf ((1, Some 0, Some 0x3fb999999999999a) ∷ (3, None, Some 0) ∷ []) ∷ p0 ∷ b0 ∷ p0 ∷ p_active 0x4010000000000000 (1 ∷ 1 ∷ 1 ∷ []) ∷ p_active 0x4012000000000000 (1 ∷ 1 ∷ []) ∷ s_passive inf ((1, Some 0x402db0a3d70a3d71, None) ∷ (2, Some 0x4004000000000000, None) ∷ []) ∷ []) ((8, 2, 6, 4, 0x402db0a3d70a3d71, 1) ∷ []) ∷ ran 1 ((2, 1, 6, 4, 0x4032d851eb851eb8, 1) ∷ (2, 1, 6, 3, 0x4032d851eb851eb8, 1) ∷ []) 0x4032d851eb851eb8 5 ∷ [])
+    (s_passive inf ((1, Some 0, Some 0x3fb999999999999a) ∷ (3, None, Some 0) ∷ []) ∷ p0 ∷ b0 ∷ p0 ∷ p_passive 0 (1 ∷ 1 ∷ []) ∷ p_active 0x3fe0000000000000 (1 ∷ 1 ∷ []) ∷ s_passive inf ((1, Some 0x402db0a3d70a3d71, None) ∷ (2, Some 0x4004000000000000, None) ∷ []) ∷ []) ((2, 1, 6, 4, 0x4032d851eb851eb8, 1) ∷ (2, 1, 6, 3, 0x4032d851eb851eb8, 1) ∷ [])
 unfolding play
 case-020 = refl
 
@@ -244,7 +243,7 @@ pub case-022 :
     (job 97 2 2 ∷ job 7 1 3 ∷ inject 0 0 9 4 0x3fd3333333333333 3 ∷ job 9 3 3 ∷ until 0x4010000000000000 5 ∷ [])
     ≡ seen
     (spent 5 [] 0x3fb999999de51c94 3 ∷ [])
-    (c0 ∷ parks ((98, 4, 3) ∷ (8, 1, 3) ∷ (8, 2, 3) ∷ []) ∷ parks ((4, 2, 3) ∷ (98, 2, 3) ∷ (4, 2, 3) ∷ (4, 2, 3) ∷ []) ∷ parks ((3, 1, 3) ∷ (3, 1, 3) ∷ []) ∷ s_passive inf ((3, some 0, none) ∷ []) ∷ p_passive 0 (3 ∷ 3 ∷ 3 ∷ 3 ∷ 3 ∷ 3 ∷ 3 ∷ 3 ∷ 3 ∷ 3 ∷ 3 ∷ 3 ∷ 3 ∷ 3 ∷ 3 ∷ 3 ∷ 3 ∷ 3 ∷ 3 ∷ 3 ∷ 3 ∷ 3 ∷ 3 ∷ 3 ∷ 3 ∷ 3 ∷ 3 ∷ 3 ∷ 3 ∷ []) ∷ []) []
+    (c0 ∷ parks ((98, 4, 3) ∷ (8, 1, 3) ∷ (8, 2, 3) ∷ []) ∷ parks ((4, 2, 3) ∷ (98, 2, 3) ∷ (4, 2, 3) ∷ (4, 2, 3) ∷ []) ∷ parks ((3, 1, 3) ∷ (3, 1, 3) ∷ []) ∷ s_passive inf ((3, Some 0, None) ∷ []) ∷ p_passive 0 (3 ∷ 3 ∷ 3 ∷ 3 ∷ 3 ∷ 3 ∷ 3 ∷ 3 ∷ 3 ∷ 3 ∷ 3 ∷ 3 ∷ 3 ∷ 3 ∷ 3 ∷ 3 ∷ 3 ∷ 3 ∷ 3 ∷ 3 ∷ 3 ∷ 3 ∷ 3 ∷ 3 ∷ 3 ∷ 3 ∷ 3 ∷ 3 ∷ 3 ∷ []) ∷ []) []
 unfolding play
 case-022 = refl
 
@@ -265,8 +264,8 @@ pub case-024 :
     (0x4004000000000000 ∷ [])
     (job 4 1 3 ∷ job 4 2 2 ∷ job 4 2 2 ∷ inject 0 0 4 2 0x3ff0000000000000 1 ∷ steps 1 ∷ look ∷ job 4 4 1 ∷ until 0x4004000000000000 1 ∷ look ∷ inject 0 0 4 2 0x401c000000000000 3 ∷ steps 1 ∷ look ∷ job 4 2 2 ∷ job 4 1 2 ∷ step ∷ look ∷ job 4 1 1 ∷ job 4 1 2 ∷ status 2 ∷ step ∷ [])
     ≡ seen
-    (ran 1 [] 0 0 ∷ holds (c0 ∷ c0 ∷ s_passive inf ((3, none, some 0) ∷ (2, none, some 0) ∷ (1, none, some 0) ∷ []) ∷ c0 ∷ p0 ∷ []) [] ∷ spent 1 [] 0 0 ∷ holds (c0 ∷ c0 ∷ s_passive inf ((3, none, some 0) ∷ (2, none, some 0) ∷ (1, none, some 0) ∷ []) ∷ c0 ∷ p0 ∷ []) [] ∷ ran 1 [] 0 0 ∷ holds (c0 ∷ c0 ∷ s_passive inf ((3, none, some 0) ∷ (2, none, some 0) ∷ (1, none, some 0) ∷ []) ∷ c0 ∷ p0 ∷ []) [] ∷ ran 1 [] 0 0 ∷ holds (c0 ∷ c0 ∷ s_passive inf ((3, none, some 0) ∷ (2, none, some 0) ∷ (1, none, some 0) ∷ []) ∷ c0 ∷ p0 ∷ []) [] ∷ refuses 4 ∷ ran 1 [] 0 0 ∷ [])
-    (c0 ∷ c0 ∷ s_passive inf ((3, none, some 0) ∷ (2, none, some 0) ∷ (1, none, some 0) ∷ []) ∷ c0 ∷ p0 ∷ []) []
+    (ran 1 [] 0 0 ∷ holds (c0 ∷ c0 ∷ s_passive inf ((3, None, Some 0) ∷ (2, None, Some 0) ∷ (1, None, Some 0) ∷ []) ∷ c0 ∷ p0 ∷ []) [] ∷ spent 1 [] 0 0 ∷ holds (c0 ∷ c0 ∷ s_passive inf ((3, None, Some 0) ∷ (2, None, Some 0) ∷ (1, None, Some 0) ∷ []) ∷ c0 ∷ p0 ∷ []) [] ∷ ran 1 [] 0 0 ∷ holds (c0 ∷ c0 ∷ s_passive inf ((3, None, Some 0) ∷ (2, None, Some 0) ∷ (1, None, Some 0) ∷ []) ∷ c0 ∷ p0 ∷ []) [] ∷ ran 1 [] 0 0 ∷ holds (c0 ∷ c0 ∷ s_passive inf ((3, None, Some 0) ∷ (2, None, Some 0) ∷ (1, None, Some 0) ∷ []) ∷ c0 ∷ p0 ∷ []) [] ∷ refuses 4 ∷ ran 1 [] 0 0 ∷ [])
+    (c0 ∷ c0 ∷ s_passive inf ((3, None, Some 0) ∷ (2, None, Some 0) ∷ (1, None, Some 0) ∷ []) ∷ c0 ∷ p0 ∷ []) []
 unfolding play
 case-024 = refl
 

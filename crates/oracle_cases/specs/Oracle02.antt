@@ -1,6 +1,5 @@
 -- Answers of the oracle, computed over the rules: cases 26 to 50. The number above a case is its script's (--show). Written by oracle/write_cases.py. Assumes nothing.
-use Rattle.std.specs.Prelude.{ℕ, ◌≡◌, refl, List, [], ◌∷◌}
-use Rattle.std.proofs.Math.Option.{Option, none, some}
+use Rattle.std.specs.Prelude.{ℕ, ◌≡◌, refl, List, [], ◌∷◌, Option, None, Some}
 use Rattle.rules.specs.declared.ProcessorPhase.TheVariants as working
 use Rattle.rules.specs.declared.BatcherPhase.TheVariants as batching
 use Rattle.rules.specs.Calls.{OfProcessor, OfBatcher, Mean, ParkedCount}
@@ -56,8 +55,8 @@ pub case-030 :
     []
     (job 2 3 1 ∷ inject 0 0 2 2 0x0000000000000001 1 ∷ steps 1 ∷ look ∷ inject 0 0 5 2 0x4004000000000000 2 ∷ job 5 2 3 ∷ job 2 4 1 ∷ job 2 4 1 ∷ job 2 4 1 ∷ steps 0 ∷ look ∷ step ∷ look ∷ job 2 3 1 ∷ inject 65535 3 2 2 0x401c000000000000 1 ∷ job 2 3 1 ∷ job 2 2 1 ∷ inject 0 0 2 3 0x4028b0a3d70a3d71 1 ∷ step ∷ look ∷ reset-global-time ∷ reset-global-time ∷ step ∷ [])
     ≡ seen
-    (ran 1 [] 0 0 ∷ holds (c0 ∷ c0 ∷ s0 ∷ c0 ∷ s_passive inf ((1, none, some 0) ∷ []) ∷ []) [] ∷ ran 0 [] 0 0 ∷ holds (c0 ∷ c0 ∷ s0 ∷ c0 ∷ s_passive inf ((1, none, some 0) ∷ []) ∷ []) ((0, 0, 5, 2, 0x4004000000000000, 2) ∷ (0, 0, 5, 2, 0, 3) ∷ (0, 0, 2, 4, 0, 1) ∷ (0, 0, 2, 4, 0, 1) ∷ (0, 0, 2, 4, 0, 1) ∷ []) ∷ ran 1 [] 0 0 ∷ holds (c0 ∷ c0 ∷ s0 ∷ c0 ∷ s_passive inf ((1, some 0, some 0) ∷ []) ∷ []) [] ∷ ran 1 ((2, 1, 2, 4, 0, 1) ∷ (2, 1, 5, 4, 0, 1) ∷ []) 0 0 ∷ holds (c0 ∷ c0 ∷ s0 ∷ c0 ∷ s_passive inf ((1, some 0, some 0) ∷ []) ∷ []) ((2, 1, 2, 4, 0, 1) ∷ (2, 1, 5, 4, 0, 1) ∷ []) ∷ ran 1 [] 0 0 ∷ [])
-    (c0 ∷ c0 ∷ s0 ∷ c0 ∷ s_passive inf ((1, some 0, some 0) ∷ []) ∷ []) []
+    (ran 1 [] 0 0 ∷ holds (c0 ∷ c0 ∷ s0 ∷ c0 ∷ s_passive inf ((1, None, Some 0) ∷ []) ∷ []) [] ∷ ran 0 [] 0 0 ∷ holds (c0 ∷ c0 ∷ s0 ∷ c0 ∷ s_passive inf ((1, None, Some 0) ∷ []) ∷ []) ((0, 0, 5, 2, 0x4004000000000000, 2) ∷ (0, 0, 5, 2, 0, 3) ∷ (0, 0, 2, 4, 0, 1) ∷ (0, 0, 2, 4, 0, 1) ∷ (0, 0, 2, 4, 0, 1) ∷ []) ∷ ran 1 [] 0 0 ∷ holds (c0 ∷ c0 ∷ s0 ∷ c0 ∷ s_passive inf ((1, Some 0, Some 0) ∷ []) ∷ []) [] ∷ ran 1 ((2, 1, 2, 4, 0, 1) ∷ (2, 1, 5, 4, 0, 1) ∷ []) 0 0 ∷ holds (c0 ∷ c0 ∷ s0 ∷ c0 ∷ s_passive inf ((1, Some 0, Some 0) ∷ []) ∷ []) ((2, 1, 2, 4, 0, 1) ∷ (2, 1, 5, 4, 0, 1) ∷ []) ∷ ran 1 [] 0 0 ∷ [])
+    (c0 ∷ c0 ∷ s0 ∷ c0 ∷ s_passive inf ((1, Some 0, Some 0) ∷ []) ∷ []) []
 unfolding play
 case-030 = refl
 
@@ -100,8 +99,8 @@ pub case-034 :
     (0x4004000000000000 ∷ 0 ∷ 0x3fe6666666666666 ∷ 0x3fb999999999999a ∷ [])
     (inject 5 3 6 1 0 2 ∷ inject 0 0 3 2 0x401c000000000000 2 ∷ job 5 3 1 ∷ job 3 2 3 ∷ job 6 1 2 ∷ step ∷ look ∷ job 4 1 1 ∷ job 9 4 1 ∷ inject 0 0 2 1 0x3fd3333333333333 1 ∷ steps 2 ∷ look ∷ until 0 501 ∷ look ∷ step ∷ look ∷ until 0x4024000000089706 500 ∷ [])
     ≡ seen
-    (ran 1 ((3, 1, 2, 1, 0, 2) ∷ (3, 1, 5, 2, 0, 2) ∷ (3, 1, 2, 1, 0, 3) ∷ (3, 1, 5, 2, 0, 3) ∷ []) 0 1 ∷ holds (b0 ∷ p0 ∷ s_passive inf ((1, none, some 0) ∷ []) ∷ b0 ∷ p_active 0x4004000000000000 (2 ∷ []) ∷ b0 ∷ []) ((3, 1, 2, 1, 0, 2) ∷ (3, 1, 5, 2, 0, 2) ∷ (3, 1, 2, 1, 0, 3) ∷ (3, 1, 5, 2, 0, 3) ∷ []) ∷ ran 2 ((2, 1, 5, 3, 0, 2) ∷ (2, 1, 3, 1, 0, 2) ∷ []) 0 3 ∷ holds (b_batching 0x4010000000000000 (2 ∷ []) ∷ p_active 0x3fe6666666666666 (3 ∷ []) ∷ s_passive inf ((1, none, some 0) ∷ (2, some 0, some 0) ∷ (3, some 0, none) ∷ []) ∷ b_batching 0x3fd2492492492492 (1 ∷ []) ∷ p_active 0x4004000000000000 (2 ∷ []) ∷ b_batching 0x3e112e0be826d695 (1 ∷ []) ∷ []) [] ∷ reached 1 [] 0x3e112e0be826d695 3 ∷ holds (b_batching 0x400fffffffdda3e8 (2 ∷ []) ∷ p_active 0x3fe6666665dcf607 (3 ∷ []) ∷ s_passive inf ((1, none, some 0) ∷ (2, some 0, some 0) ∷ (3, some 0, none) ∷ []) ∷ b_batching 0x3fd24924913643d3 (1 ∷ []) ∷ p_active 0x4003ffffffdda3e8 (2 ∷ []) ∷ b0 ∷ []) ((9, 2, 4, 4, 0x3e112e0be826d695, 1) ∷ []) ∷ ran 1 ((4, 1, 2, 9, 0x3e112e0be826d695, 1) ∷ (4, 1, 2, 9, 0x3e112e0be826d695, 1) ∷ []) 0x3e112e0be826d695 3 ∷ holds (b_batching 0x400fffffffdda3e8 (2 ∷ []) ∷ p_active 0x3fe6666665dcf607 (3 ∷ []) ∷ s_passive inf ((1, none, some 0) ∷ (2, some 0, some 0) ∷ (3, some 0, none) ∷ []) ∷ b0 ∷ p_active 0x4003ffffffdda3e8 (2 ∷ []) ∷ b0 ∷ []) ((4, 1, 2, 9, 0x3e112e0be826d695, 1) ∷ (4, 1, 2, 9, 0x3e112e0be826d695, 1) ∷ []) ∷ stopped 5 0 [] 0x3e112e0be826d695 3 ∷ [])
-    (b_batching 0x400fffffffdda3e8 (2 ∷ []) ∷ p_active 0x3fe6666665dcf607 (3 ∷ []) ∷ s_passive inf ((1, none, some 0) ∷ (2, some 0, some 0) ∷ (3, some 0, none) ∷ []) ∷ b0 ∷ p_active 0x4003ffffffdda3e8 (2 ∷ []) ∷ b0 ∷ []) ((4, 1, 2, 9, 0x3e112e0be826d695, 1) ∷ (4, 1, 2, 9, 0x3e112e0be826d695, 1) ∷ [])
+    (ran 1 ((3, 1, 2, 1, 0, 2) ∷ (3, 1, 5, 2, 0, 2) ∷ (3, 1, 2, 1, 0, 3) ∷ (3, 1, 5, 2, 0, 3) ∷ []) 0 1 ∷ holds (b0 ∷ p0 ∷ s_passive inf ((1, None, Some 0) ∷ []) ∷ b0 ∷ p_active 0x4004000000000000 (2 ∷ []) ∷ b0 ∷ []) ((3, 1, 2, 1, 0, 2) ∷ (3, 1, 5, 2, 0, 2) ∷ (3, 1, 2, 1, 0, 3) ∷ (3, 1, 5, 2, 0, 3) ∷ []) ∷ ran 2 ((2, 1, 5, 3, 0, 2) ∷ (2, 1, 3, 1, 0, 2) ∷ []) 0 3 ∷ holds (b_batching 0x4010000000000000 (2 ∷ []) ∷ p_active 0x3fe6666666666666 (3 ∷ []) ∷ s_passive inf ((1, None, Some 0) ∷ (2, Some 0, Some 0) ∷ (3, Some 0, None) ∷ []) ∷ b_batching 0x3fd2492492492492 (1 ∷ []) ∷ p_active 0x4004000000000000 (2 ∷ []) ∷ b_batching 0x3e112e0be826d695 (1 ∷ []) ∷ []) [] ∷ reached 1 [] 0x3e112e0be826d695 3 ∷ holds (b_batching 0x400fffffffdda3e8 (2 ∷ []) ∷ p_active 0x3fe6666665dcf607 (3 ∷ []) ∷ s_passive inf ((1, None, Some 0) ∷ (2, Some 0, Some 0) ∷ (3, Some 0, None) ∷ []) ∷ b_batching 0x3fd24924913643d3 (1 ∷ []) ∷ p_active 0x4003ffffffdda3e8 (2 ∷ []) ∷ b0 ∷ []) ((9, 2, 4, 4, 0x3e112e0be826d695, 1) ∷ []) ∷ ran 1 ((4, 1, 2, 9, 0x3e112e0be826d695, 1) ∷ (4, 1, 2, 9, 0x3e112e0be826d695, 1) ∷ []) 0x3e112e0be826d695 3 ∷ holds (b_batching 0x400fffffffdda3e8 (2 ∷ []) ∷ p_active 0x3fe6666665dcf607 (3 ∷ []) ∷ s_passive inf ((1, None, Some 0) ∷ (2, Some 0, Some 0) ∷ (3, Some 0, None) ∷ []) ∷ b0 ∷ p_active 0x4003ffffffdda3e8 (2 ∷ []) ∷ b0 ∷ []) ((4, 1, 2, 9, 0x3e112e0be826d695, 1) ∷ (4, 1, 2, 9, 0x3e112e0be826d695, 1) ∷ []) ∷ stopped 5 0 [] 0x3e112e0be826d695 3 ∷ [])
+    (b_batching 0x400fffffffdda3e8 (2 ∷ []) ∷ p_active 0x3fe6666665dcf607 (3 ∷ []) ∷ s_passive inf ((1, None, Some 0) ∷ (2, Some 0, Some 0) ∷ (3, Some 0, None) ∷ []) ∷ b0 ∷ p_active 0x4003ffffffdda3e8 (2 ∷ []) ∷ b0 ∷ []) ((4, 1, 2, 9, 0x3e112e0be826d695, 1) ∷ (4, 1, 2, 9, 0x3e112e0be826d695, 1) ∷ [])
 unfolding play
 case-034 = refl
 
@@ -111,8 +110,8 @@ pub case-035 :
     (0x4010000000000000 ∷ 0 ∷ [])
     (inject 0 0 5 3 0x4010000000000000 3 ∷ until 0x4010000000000000 3 ∷ look ∷ job 1 2 3 ∷ inject 65535 3 3 2 0 3 ∷ step ∷ look ∷ job 3 3 3 ∷ job 3 3 3 ∷ steps 3 ∷ look ∷ until 0x401c000000000000 5 ∷ [])
     ≡ seen
-    (spent 3 ((5, 1, 1, 1, 0x0011fa182c40c60d, 3) ∷ (5, 1, 3, 4, 0x0011fa182c40c60d, 3) ∷ []) 0x0011fa182c40c60d 0 ∷ holds (s_passive inf ((3, none, some 0x0011fa182c40c60d) ∷ []) ∷ b0 ∷ p0 ∷ s_passive inf ((3, some 0x0011fa182c40c60d, none) ∷ []) ∷ []) [] ∷ ran 1 [] 0x0011fa182c40c60d 0 ∷ holds (s_passive inf ((3, some 0x0011fa182c40c60d, some 0x0011fa182c40c60d) ∷ []) ∷ b0 ∷ p0 ∷ s_passive inf ((3, some 0x0011fa182c40c60d, some 0x0011fa182c40c60d) ∷ []) ∷ []) [] ∷ ran 3 ((3, 2, 3, 2, 0x0011fa182c40c60d, 3) ∷ (3, 2, 9, 1, 0x0011fa182c40c60d, 3) ∷ (3, 2, 1, 2, 0x0011fa182c40c60d, 3) ∷ (3, 2, 1, 4, 0x0011fa182c40c60d, 3) ∷ (1, 1, 1, 2, 0x0011fa182c40c60d, 3) ∷ (1, 1, 3, 3, 0x0011fa182c40c60d, 3) ∷ (1, 1, 9, 1, 0x0011fa182c40c60d, 3) ∷ (1, 1, 5, 3, 0x0011fa182c40c60d, 3) ∷ (3, 2, 3, 2, 0x0011fa182c40c60d, 3) ∷ (3, 2, 9, 1, 0x0011fa182c40c60d, 3) ∷ (3, 2, 1, 2, 0x0011fa182c40c60d, 3) ∷ (3, 2, 1, 4, 0x0011fa182c40c60d, 3) ∷ []) 0x0011fa182c40c60d 1 ∷ holds (s_passive inf ((3, some 0x0011fa182c40c60d, some 0x0011fa182c40c60d) ∷ []) ∷ b_batching 0x0011fa182c40c60d (3 ∷ []) ∷ p_active 0x4010000000000000 (3 ∷ []) ∷ s_passive inf ((3, some 0x0011fa182c40c60d, some 0x0011fa182c40c60d) ∷ []) ∷ []) ((3, 2, 3, 2, 0x0011fa182c40c60d, 3) ∷ (3, 2, 9, 1, 0x0011fa182c40c60d, 3) ∷ (3, 2, 1, 2, 0x0011fa182c40c60d, 3) ∷ (3, 2, 1, 4, 0x0011fa182c40c60d, 3) ∷ []) ∷ spent 5 ((1, 1, 1, 2, 0x0011fa182c40c60d, 3) ∷ (1, 1, 3, 3, 0x0011fa182c40c60d, 3) ∷ (1, 1, 9, 1, 0x0011fa182c40c60d, 3) ∷ (1, 1, 5, 3, 0x0011fa182c40c60d, 3) ∷ (3, 2, 3, 2, 0x0011fa182c40c60d, 3) ∷ (3, 2, 9, 1, 0x0011fa182c40c60d, 3) ∷ (3, 2, 1, 2, 0x0011fa182c40c60d, 3) ∷ (3, 2, 1, 4, 0x0011fa182c40c60d, 3) ∷ (1, 1, 1, 2, 0x0011fa182c40c60d, 3) ∷ (1, 1, 3, 3, 0x0011fa182c40c60d, 3) ∷ (1, 1, 9, 1, 0x0011fa182c40c60d, 3) ∷ (1, 1, 5, 3, 0x0011fa182c40c60d, 3) ∷ (3, 2, 3, 2, 0x0011fa182c40c60d, 3) ∷ (3, 2, 9, 1, 0x0011fa182c40c60d, 3) ∷ (3, 2, 1, 2, 0x0011fa182c40c60d, 3) ∷ (3, 2, 1, 4, 0x0011fa182c40c60d, 3) ∷ (5, 1, 1, 1, 0x0011fa182c40c60d, 3) ∷ (5, 1, 3, 4, 0x0011fa182c40c60d, 3) ∷ (5, 1, 1, 1, 0x0011fa182c40c60d, 3) ∷ (5, 1, 3, 4, 0x0011fa182c40c60d, 3) ∷ (5, 1, 1, 1, 0x0011fa182c40c60d, 3) ∷ (5, 1, 3, 4, 0x0011fa182c40c60d, 3) ∷ (1, 1, 1, 2, 0x0011fa182c40c60d, 3) ∷ (1, 1, 3, 3, 0x0011fa182c40c60d, 3) ∷ (1, 1, 9, 1, 0x0011fa182c40c60d, 3) ∷ (1, 1, 5, 3, 0x0011fa182c40c60d, 3) ∷ []) 0x0011fa182c40c60d 1 ∷ [])
-    (s_passive inf ((3, some 0x0011fa182c40c60d, some 0x0011fa182c40c60d) ∷ []) ∷ b0 ∷ p_active 0x4010000000000000 (3 ∷ []) ∷ s_passive inf ((3, some 0x0011fa182c40c60d, some 0x0011fa182c40c60d) ∷ []) ∷ []) ((1, 1, 1, 2, 0x0011fa182c40c60d, 3) ∷ (1, 1, 3, 3, 0x0011fa182c40c60d, 3) ∷ (1, 1, 9, 1, 0x0011fa182c40c60d, 3) ∷ (1, 1, 5, 3, 0x0011fa182c40c60d, 3) ∷ [])
+    (spent 3 ((5, 1, 1, 1, 0x0011fa182c40c60d, 3) ∷ (5, 1, 3, 4, 0x0011fa182c40c60d, 3) ∷ []) 0x0011fa182c40c60d 0 ∷ holds (s_passive inf ((3, None, Some 0x0011fa182c40c60d) ∷ []) ∷ b0 ∷ p0 ∷ s_passive inf ((3, Some 0x0011fa182c40c60d, None) ∷ []) ∷ []) [] ∷ ran 1 [] 0x0011fa182c40c60d 0 ∷ holds (s_passive inf ((3, Some 0x0011fa182c40c60d, Some 0x0011fa182c40c60d) ∷ []) ∷ b0 ∷ p0 ∷ s_passive inf ((3, Some 0x0011fa182c40c60d, Some 0x0011fa182c40c60d) ∷ []) ∷ []) [] ∷ ran 3 ((3, 2, 3, 2, 0x0011fa182c40c60d, 3) ∷ (3, 2, 9, 1, 0x0011fa182c40c60d, 3) ∷ (3, 2, 1, 2, 0x0011fa182c40c60d, 3) ∷ (3, 2, 1, 4, 0x0011fa182c40c60d, 3) ∷ (1, 1, 1, 2, 0x0011fa182c40c60d, 3) ∷ (1, 1, 3, 3, 0x0011fa182c40c60d, 3) ∷ (1, 1, 9, 1, 0x0011fa182c40c60d, 3) ∷ (1, 1, 5, 3, 0x0011fa182c40c60d, 3) ∷ (3, 2, 3, 2, 0x0011fa182c40c60d, 3) ∷ (3, 2, 9, 1, 0x0011fa182c40c60d, 3) ∷ (3, 2, 1, 2, 0x0011fa182c40c60d, 3) ∷ (3, 2, 1, 4, 0x0011fa182c40c60d, 3) ∷ []) 0x0011fa182c40c60d 1 ∷ holds (s_passive inf ((3, Some 0x0011fa182c40c60d, Some 0x0011fa182c40c60d) ∷ []) ∷ b_batching 0x0011fa182c40c60d (3 ∷ []) ∷ p_active 0x4010000000000000 (3 ∷ []) ∷ s_passive inf ((3, Some 0x0011fa182c40c60d, Some 0x0011fa182c40c60d) ∷ []) ∷ []) ((3, 2, 3, 2, 0x0011fa182c40c60d, 3) ∷ (3, 2, 9, 1, 0x0011fa182c40c60d, 3) ∷ (3, 2, 1, 2, 0x0011fa182c40c60d, 3) ∷ (3, 2, 1, 4, 0x0011fa182c40c60d, 3) ∷ []) ∷ spent 5 ((1, 1, 1, 2, 0x0011fa182c40c60d, 3) ∷ (1, 1, 3, 3, 0x0011fa182c40c60d, 3) ∷ (1, 1, 9, 1, 0x0011fa182c40c60d, 3) ∷ (1, 1, 5, 3, 0x0011fa182c40c60d, 3) ∷ (3, 2, 3, 2, 0x0011fa182c40c60d, 3) ∷ (3, 2, 9, 1, 0x0011fa182c40c60d, 3) ∷ (3, 2, 1, 2, 0x0011fa182c40c60d, 3) ∷ (3, 2, 1, 4, 0x0011fa182c40c60d, 3) ∷ (1, 1, 1, 2, 0x0011fa182c40c60d, 3) ∷ (1, 1, 3, 3, 0x0011fa182c40c60d, 3) ∷ (1, 1, 9, 1, 0x0011fa182c40c60d, 3) ∷ (1, 1, 5, 3, 0x0011fa182c40c60d, 3) ∷ (3, 2, 3, 2, 0x0011fa182c40c60d, 3) ∷ (3, 2, 9, 1, 0x0011fa182c40c60d, 3) ∷ (3, 2, 1, 2, 0x0011fa182c40c60d, 3) ∷ (3, 2, 1, 4, 0x0011fa182c40c60d, 3) ∷ (5, 1, 1, 1, 0x0011fa182c40c60d, 3) ∷ (5, 1, 3, 4, 0x0011fa182c40c60d, 3) ∷ (5, 1, 1, 1, 0x0011fa182c40c60d, 3) ∷ (5, 1, 3, 4, 0x0011fa182c40c60d, 3) ∷ (5, 1, 1, 1, 0x0011fa182c40c60d, 3) ∷ (5, 1, 3, 4, 0x0011fa182c40c60d, 3) ∷ (1, 1, 1, 2, 0x0011fa182c40c60d, 3) ∷ (1, 1, 3, 3, 0x0011fa182c40c60d, 3) ∷ (1, 1, 9, 1, 0x0011fa182c40c60d, 3) ∷ (1, 1, 5, 3, 0x0011fa182c40c60d, 3) ∷ []) 0x0011fa182c40c60d 1 ∷ [])
+    (s_passive inf ((3, Some 0x0011fa182c40c60d, Some 0x0011fa182c40c60d) ∷ []) ∷ b0 ∷ p_active 0x4010000000000000 (3 ∷ []) ∷ s_passive inf ((3, Some 0x0011fa182c40c60d, Some 0x0011fa182c40c60d) ∷ []) ∷ []) ((1, 1, 1, 2, 0x0011fa182c40c60d, 3) ∷ (1, 1, 3, 3, 0x0011fa182c40c60d, 3) ∷ (1, 1, 9, 1, 0x0011fa182c40c60d, 3) ∷ (1, 1, 5, 3, 0x0011fa182c40c60d, 3) ∷ [])
 unfolding play
 case-035 = refl
 
@@ -122,7 +121,7 @@ pub case-036 :
     (0 ∷ 0x401c000000000000 ∷ [])
     (inject 0 0 5 3 0x401c000000000000 1 ∷ job 9 1 2 ∷ job 3 2 2 ∷ job 6 4 3 ∷ inject 0 0 5 2 0x3ff0000000000000 3 ∷ job 5 1 2 ∷ status 96 ∷ steps 1 ∷ look ∷ job 3 1 1 ∷ until 0x3ff0000000000000 1 ∷ look ∷ job 1 1 3 ∷ job 1 1 3 ∷ reset-global-time ∷ until 0 2 ∷ look ∷ step ∷ look ∷ inject 0 0 1 1 0x401c000000000000 1 ∷ inject 0 0 9 2 0x401c000000000000 3 ∷ put_in (bat 8 0 1 2 1 0x4004000000000000 ∷ proc 7 0 1 2 32 ∷ proc 5 0 1 1 full ∷ proc 9 0 1 2 8 ∷ bat 1 0 1 1 2 0x3fd5555555555555 ∷ coup 4 0 ∷ []) (link 9 2 5 1 ∷ link 1 1 5 1 ∷ link 7 2 8 2 ∷ link 5 1 1 1 ∷ link 4 1 8 4 ∷ link 7 2 8 2 ∷ []) [] ∷ steps 2 ∷ [])
     ≡ seen
-    (refuses 4 ∷ ran 1 [] 0 0 ∷ holds (s_passive inf ((1, some 0, none) ∷ (2, none, some 0) ∷ []) ∷ s0 ∷ s_passive inf ((2, none, some 0) ∷ []) ∷ s_passive inf ((3, none, some 0) ∷ []) ∷ p0 ∷ c0 ∷ []) [] ∷ spent 1 [] 0 0 ∷ holds (s_passive inf ((1, some 0, none) ∷ (2, none, some 0) ∷ []) ∷ s0 ∷ s_passive inf ((2, none, some 0) ∷ []) ∷ s_passive inf ((3, none, some 0) ∷ []) ∷ p0 ∷ c0 ∷ []) [] ∷ reached 1 [] 0 1 ∷ holds (s_passive inf ((1, some 0, none) ∷ (2, none, some 0) ∷ []) ∷ s0 ∷ s_passive inf ((2, none, some 0) ∷ []) ∷ s_passive inf ((3, none, some 0) ∷ []) ∷ p_passive 0 [] ∷ c0 ∷ []) ((1, 1, 9, 1, 0, 3) ∷ (1, 1, 2, 2, 0, 3) ∷ (1, 1, 5, 1, 0, 3) ∷ (1, 1, 2, 2, 0, 3) ∷ []) ∷ ran 1 [] 0 1 ∷ holds (s_passive inf ((1, some 0, none) ∷ (2, none, some 0) ∷ (3, none, some 0) ∷ []) ∷ s_passive inf ((3, some 0, none) ∷ []) ∷ s_passive inf ((2, none, some 0) ∷ (3, none, some 0) ∷ []) ∷ s_passive inf ((3, none, some 0) ∷ []) ∷ p0 ∷ c0 ∷ []) [] ∷ stopped 5 0 [] 0 1 ∷ [])
+    (refuses 4 ∷ ran 1 [] 0 0 ∷ holds (s_passive inf ((1, Some 0, None) ∷ (2, None, Some 0) ∷ []) ∷ s0 ∷ s_passive inf ((2, None, Some 0) ∷ []) ∷ s_passive inf ((3, None, Some 0) ∷ []) ∷ p0 ∷ c0 ∷ []) [] ∷ spent 1 [] 0 0 ∷ holds (s_passive inf ((1, Some 0, None) ∷ (2, None, Some 0) ∷ []) ∷ s0 ∷ s_passive inf ((2, None, Some 0) ∷ []) ∷ s_passive inf ((3, None, Some 0) ∷ []) ∷ p0 ∷ c0 ∷ []) [] ∷ reached 1 [] 0 1 ∷ holds (s_passive inf ((1, Some 0, None) ∷ (2, None, Some 0) ∷ []) ∷ s0 ∷ s_passive inf ((2, None, Some 0) ∷ []) ∷ s_passive inf ((3, None, Some 0) ∷ []) ∷ p_passive 0 [] ∷ c0 ∷ []) ((1, 1, 9, 1, 0, 3) ∷ (1, 1, 2, 2, 0, 3) ∷ (1, 1, 5, 1, 0, 3) ∷ (1, 1, 2, 2, 0, 3) ∷ []) ∷ ran 1 [] 0 1 ∷ holds (s_passive inf ((1, Some 0, None) ∷ (2, None, Some 0) ∷ (3, None, Some 0) ∷ []) ∷ s_passive inf ((3, Some 0, None) ∷ []) ∷ s_passive inf ((2, None, Some 0) ∷ (3, None, Some 0) ∷ []) ∷ s_passive inf ((3, None, Some 0) ∷ []) ∷ p0 ∷ c0 ∷ []) [] ∷ stopped 5 0 [] 0 1 ∷ [])
     (b0 ∷ p0 ∷ p0 ∷ p0 ∷ b0 ∷ c0 ∷ []) ((0, 0, 1, 1, 0x401c000000000000, 1) ∷ (0, 0, 9, 2, 0x401c000000000000, 3) ∷ [])
 unfolding play
 case-036 = refl
@@ -144,8 +143,8 @@ pub case-038 :
     (0x4028b0a3d70a3d71 ∷ 0x4004000000000000 ∷ 0x3fe6666666666666 ∷ 0x401c000000000000 ∷ [])
     (inject 0 0 8 1 0x4010000000000000 1 ∷ job 3 1 1 ∷ job 3 1 2 ∷ inject 5 3 2 3 0 1 ∷ job 7 1 1 ∷ job 1 2 3 ∷ until 0x3fb999999999999a 502 ∷ look ∷ job 1 1 3 ∷ until 0x3ffb333333333333 3 ∷ look ∷ step ∷ look ∷ step ∷ look ∷ steps 2 ∷ [])
     ≡ seen
-    (reached 2 [] 0x3fe6666666666666 3 ∷ holds (b0 ∷ p_active 0x40274a3d70a3d70b (1 ∷ []) ∷ b_batching 0x3ffccccccccccccd (1 ∷ []) ∷ s_passive inf ((3, none, some 0) ∷ []) ∷ p_active 0x3ffccccccccccccd (1 ∷ []) ∷ p_passive 0 (2 ∷ []) ∷ b0 ∷ []) ((3, 2, 7, 1, 0x3fe6666666666666, 1) ∷ (3, 2, 4, 2, 0x3fe6666666666666, 1) ∷ (3, 2, 1, 1, 0x3fe6666666666666, 1) ∷ (3, 2, 2, 4, 0x3fe6666666666666, 1) ∷ []) ∷ reached 2 [] 0x4004000000000000 4 ∷ holds (b0 ∷ p_active 0x4023b0a3d70a3d71 (1 ∷ 1 ∷ []) ∷ b0 ∷ s_passive inf ((3, some 0x3fe6666666666666, some 0) ∷ (1, some 0x3fe6666666666666, none) ∷ []) ∷ p_passive 0 [] ∷ p_active 0x4014cccccccccccd (2 ∷ []) ∷ b0 ∷ []) ((2, 1, 7, 1, 0x4004000000000000, 1) ∷ (2, 1, 7, 1, 0x4004000000000000, 1) ∷ []) ∷ ran 1 [] 0x4004000000000000 4 ∷ holds (b0 ∷ p_active 0x4023b0a3d70a3d71 (1 ∷ 1 ∷ 1 ∷ 1 ∷ []) ∷ b0 ∷ s_passive inf ((3, some 0x3fe6666666666666, some 0) ∷ (1, some 0x3fe6666666666666, none) ∷ []) ∷ p0 ∷ p_active 0x4014cccccccccccd (2 ∷ []) ∷ b0 ∷ []) [] ∷ ran 1 ((3, 2, 7, 1, 0x401ecccccccccccd, 2) ∷ (3, 2, 4, 2, 0x401ecccccccccccd, 2) ∷ (3, 2, 1, 1, 0x401ecccccccccccd, 2) ∷ (3, 2, 2, 4, 0x401ecccccccccccd, 2) ∷ []) 0x401ecccccccccccd 4 ∷ holds (b0 ∷ p_active 0x4012947ae147ae15 (1 ∷ 1 ∷ 1 ∷ 1 ∷ []) ∷ b0 ∷ s_passive inf ((3, some 0x3fe6666666666666, some 0) ∷ (1, some 0x3fe6666666666666, none) ∷ []) ∷ p0 ∷ p_passive 0 [] ∷ b0 ∷ []) ((3, 2, 7, 1, 0x401ecccccccccccd, 2) ∷ (3, 2, 4, 2, 0x401ecccccccccccd, 2) ∷ (3, 2, 1, 1, 0x401ecccccccccccd, 2) ∷ (3, 2, 2, 4, 0x401ecccccccccccd, 2) ∷ []) ∷ ran 2 ((2, 1, 7, 1, 0x4024666666666666, 2) ∷ []) 0x4024666666666666 4 ∷ [])
-    (b0 ∷ p_active 0x400128f5c28f5c2a (1 ∷ 1 ∷ 1 ∷ 1 ∷ 2 ∷ []) ∷ b0 ∷ s_passive inf ((3, some 0x3fe6666666666666, some 0) ∷ (1, some 0x3fe6666666666666, none) ∷ (2, some 0x401ecccccccccccd, none) ∷ []) ∷ p0 ∷ p0 ∷ b0 ∷ []) ((2, 1, 7, 1, 0x4024666666666666, 2) ∷ [])
+    (reached 2 [] 0x3fe6666666666666 3 ∷ holds (b0 ∷ p_active 0x40274a3d70a3d70b (1 ∷ []) ∷ b_batching 0x3ffccccccccccccd (1 ∷ []) ∷ s_passive inf ((3, None, Some 0) ∷ []) ∷ p_active 0x3ffccccccccccccd (1 ∷ []) ∷ p_passive 0 (2 ∷ []) ∷ b0 ∷ []) ((3, 2, 7, 1, 0x3fe6666666666666, 1) ∷ (3, 2, 4, 2, 0x3fe6666666666666, 1) ∷ (3, 2, 1, 1, 0x3fe6666666666666, 1) ∷ (3, 2, 2, 4, 0x3fe6666666666666, 1) ∷ []) ∷ reached 2 [] 0x4004000000000000 4 ∷ holds (b0 ∷ p_active 0x4023b0a3d70a3d71 (1 ∷ 1 ∷ []) ∷ b0 ∷ s_passive inf ((3, Some 0x3fe6666666666666, Some 0) ∷ (1, Some 0x3fe6666666666666, None) ∷ []) ∷ p_passive 0 [] ∷ p_active 0x4014cccccccccccd (2 ∷ []) ∷ b0 ∷ []) ((2, 1, 7, 1, 0x4004000000000000, 1) ∷ (2, 1, 7, 1, 0x4004000000000000, 1) ∷ []) ∷ ran 1 [] 0x4004000000000000 4 ∷ holds (b0 ∷ p_active 0x4023b0a3d70a3d71 (1 ∷ 1 ∷ 1 ∷ 1 ∷ []) ∷ b0 ∷ s_passive inf ((3, Some 0x3fe6666666666666, Some 0) ∷ (1, Some 0x3fe6666666666666, None) ∷ []) ∷ p0 ∷ p_active 0x4014cccccccccccd (2 ∷ []) ∷ b0 ∷ []) [] ∷ ran 1 ((3, 2, 7, 1, 0x401ecccccccccccd, 2) ∷ (3, 2, 4, 2, 0x401ecccccccccccd, 2) ∷ (3, 2, 1, 1, 0x401ecccccccccccd, 2) ∷ (3, 2, 2, 4, 0x401ecccccccccccd, 2) ∷ []) 0x401ecccccccccccd 4 ∷ holds (b0 ∷ p_active 0x4012947ae147ae15 (1 ∷ 1 ∷ 1 ∷ 1 ∷ []) ∷ b0 ∷ s_passive inf ((3, Some 0x3fe6666666666666, Some 0) ∷ (1, Some 0x3fe6666666666666, None) ∷ []) ∷ p0 ∷ p_passive 0 [] ∷ b0 ∷ []) ((3, 2, 7, 1, 0x401ecccccccccccd, 2) ∷ (3, 2, 4, 2, 0x401ecccccccccccd, 2) ∷ (3, 2, 1, 1, 0x401ecccccccccccd, 2) ∷ (3, 2, 2, 4, 0x401ecccccccccccd, 2) ∷ []) ∷ ran 2 ((2, 1, 7, 1, 0x4024666666666666, 2) ∷ []) 0x4024666666666666 4 ∷ [])
+    (b0 ∷ p_active 0x400128f5c28f5c2a (1 ∷ 1 ∷ 1 ∷ 1 ∷ 2 ∷ []) ∷ b0 ∷ s_passive inf ((3, Some 0x3fe6666666666666, Some 0) ∷ (1, Some 0x3fe6666666666666, None) ∷ (2, Some 0x401ecccccccccccd, None) ∷ []) ∷ p0 ∷ p0 ∷ b0 ∷ []) ((2, 1, 7, 1, 0x4024666666666666, 2) ∷ [])
 unfolding play
 case-038 = refl
 
@@ -167,7 +166,7 @@ pub case-040 :
     (inject 0 0 4096 1 0x4028b0a3d70a3d71 3 ∷ inject 65535 3 4096 1 0x4004000000000000 3 ∷ steps 2 ∷ look ∷ job 4096 1 1 ∷ job 4096 1 3 ∷ put_in (most 4096 0 4 1 2 1 ∷ proc 257 0 1 1 full ∷ proc 32768 0 1 1 32 ∷ proc 255 0 1 2 1 ∷ bat 1 0 1 2 4611686018427387904 0x4004000000000000 ∷ bat 256 0 1 1 2 0 ∷ coup 2 0 ∷ []) (link 32768 1 256 2 ∷ link 4096 1 255 1 ∷ link 256 1 4096 4 ∷ link 257 1 4096 1 ∷ link 255 2 32768 1 ∷ link 256 1 257 1 ∷ link 257 1 32768 1 ∷ link 1 2 4096 2 ∷ link 2 4 32768 1 ∷ link 256 1 4096 2 ∷ link 257 1 1 2 ∷ link 4096 1 257 1 ∷ []) [] ∷ inject 0 0 32768 1 0x4004000000000000 2 ∷ inject 0 0 255 1 0x4010000000000000 1 ∷ job 256 4 3 ∷ until 0x4004cccccccccccd 2 ∷ [])
     ≡ seen
     (ran 2 [] 0x4004000000000000 0 ∷ holds (c0 ∷ parks ((65534, 4, 3) ∷ (65534, 4, 3) ∷ []) ∷ b0 ∷ p0 ∷ []) [] ∷ spent 2 ((256, 1, 4096, 4, 0x4004000000000000, 3) ∷ (256, 1, 257, 1, 0x4004000000000000, 3) ∷ (256, 1, 4096, 2, 0x4004000000000000, 3) ∷ (4096, 1, 255, 1, 0x4004000000000000, 3) ∷ (4096, 1, 257, 1, 0x4004000000000000, 3) ∷ (257, 1, 4096, 1, 0x4004000000000000, 3) ∷ (257, 1, 32768, 1, 0x4004000000000000, 3) ∷ (257, 1, 1, 2, 0x4004000000000000, 3) ∷ []) 0x4004000000000000 3 ∷ [])
-    (s_passive inf ((1, none, some 0x4004000000000000) ∷ (3, some 0x4004000000000000, some 0x4004000000000000) ∷ []) ∷ p_passive 0 [] ∷ p_active 0x3ff0000000000000 (2 ∷ []) ∷ p_active 0x4028b0a3d70a3d71 (1 ∷ []) ∷ b0 ∷ b0 ∷ c0 ∷ []) ((4096, 1, 255, 1, 0x4004000000000000, 3) ∷ (4096, 1, 257, 1, 0x4004000000000000, 3) ∷ (257, 1, 4096, 1, 0x4004000000000000, 3) ∷ (257, 1, 32768, 1, 0x4004000000000000, 3) ∷ (257, 1, 1, 2, 0x4004000000000000, 3) ∷ [])
+    (s_passive inf ((1, None, Some 0x4004000000000000) ∷ (3, Some 0x4004000000000000, Some 0x4004000000000000) ∷ []) ∷ p_passive 0 [] ∷ p_active 0x3ff0000000000000 (2 ∷ []) ∷ p_active 0x4028b0a3d70a3d71 (1 ∷ []) ∷ b0 ∷ b0 ∷ c0 ∷ []) ((4096, 1, 255, 1, 0x4004000000000000, 3) ∷ (4096, 1, 257, 1, 0x4004000000000000, 3) ∷ (257, 1, 4096, 1, 0x4004000000000000, 3) ∷ (257, 1, 32768, 1, 0x4004000000000000, 3) ∷ (257, 1, 1, 2, 0x4004000000000000, 3) ∷ [])
 unfolding play
 case-040 = refl
 
@@ -210,8 +209,8 @@ pub case-044 :
     (0x3fe6666666666666 ∷ 0x3fb999999999999a ∷ 0x3e112e0be826d695 ∷ 0x3fd2492492492492 ∷ 0x4010000000000000 ∷ 0x3fe6666666666666 ∷ 0x3fb999999999999a ∷ [])
     (inject 0 0 256 1 0x3fd3333333333333 1 ∷ inject 0 0 65535 1 0x3fb999999999999a 3 ∷ job 65535 1 3 ∷ job 65534 1 1 ∷ until 0x4004000000000000 11 ∷ look ∷ step ∷ look ∷ job 32768 1 2 ∷ inject 5 3 65534 1 0 1 ∷ step ∷ [])
     ≡ seen
-    (reached 10 ((65534, 1, 4096, 1, 0x3e112e0be826d695, 1) ∷ (4096, 2, 32768, 4, 0x3fd24924935c0550, 1) ∷ (256, 1, 32768, 3, 0x3fe6666666666666, 1) ∷ []) 0x4010666666666667 5 ∷ holds (s_passive inf ((1, some 0x3fd24924935c0550, none) ∷ []) ∷ p0 ∷ p0 ∷ p_passive 0 [] ∷ b0 ∷ p0 ∷ []) [] ∷ ran 1 [] 0x4010666666666667 5 ∷ holds (s_passive inf ((1, some 0x3fd24924935c0550, none) ∷ []) ∷ p0 ∷ p0 ∷ p0 ∷ b0 ∷ p0 ∷ []) [] ∷ ran 1 [] 0x4010666666666667 6 ∷ [])
-    (s_passive inf ((1, some 0x3fd24924935c0550, none) ∷ (2, none, some 0x4010666666666667) ∷ []) ∷ p0 ∷ p0 ∷ p0 ∷ b0 ∷ p_active 0x3fe6666666666666 (1 ∷ []) ∷ []) []
+    (reached 10 ((65534, 1, 4096, 1, 0x3e112e0be826d695, 1) ∷ (4096, 2, 32768, 4, 0x3fd24924935c0550, 1) ∷ (256, 1, 32768, 3, 0x3fe6666666666666, 1) ∷ []) 0x4010666666666667 5 ∷ holds (s_passive inf ((1, Some 0x3fd24924935c0550, None) ∷ []) ∷ p0 ∷ p0 ∷ p_passive 0 [] ∷ b0 ∷ p0 ∷ []) [] ∷ ran 1 [] 0x4010666666666667 5 ∷ holds (s_passive inf ((1, Some 0x3fd24924935c0550, None) ∷ []) ∷ p0 ∷ p0 ∷ p0 ∷ b0 ∷ p0 ∷ []) [] ∷ ran 1 [] 0x4010666666666667 6 ∷ [])
+    (s_passive inf ((1, Some 0x3fd24924935c0550, None) ∷ (2, None, Some 0x4010666666666667) ∷ []) ∷ p0 ∷ p0 ∷ p0 ∷ b0 ∷ p_active 0x3fe6666666666666 (1 ∷ []) ∷ []) []
 unfolding play
 case-044 = refl
 
@@ -232,8 +231,8 @@ pub case-046 :
     (0x4004000000000000 ∷ 0x4004000000000000 ∷ [])
     (inject 0 0 255 1 0x3e112e0be826d695 3 ∷ step ∷ look ∷ steps 2 ∷ look ∷ step ∷ [])
     ≡ seen
-    (ran 1 [] 0 1 ∷ holds (p0 ∷ c0 ∷ s_passive inf ((3, some 0, none) ∷ []) ∷ b_batching 0x3fd5555555555555 (3 ∷ []) ∷ p_active 0x4004000000000000 (3 ∷ []) ∷ b0 ∷ []) [] ∷ ran 2 ((255, 1, 255, 1, 0x4004000000000000, 3) ∷ []) 0x4004000000000000 1 ∷ holds (p0 ∷ c0 ∷ s_passive inf ((3, some 0, none) ∷ []) ∷ b0 ∷ p_passive 0 [] ∷ b0 ∷ []) ((255, 1, 255, 1, 0x4004000000000000, 3) ∷ []) ∷ ran 1 [] 0x4004000000000000 2 ∷ [])
-    (p0 ∷ c0 ∷ s_passive inf ((3, some 0x4004000000000000, none) ∷ []) ∷ b_batching 0x3fd5555555555555 (3 ∷ []) ∷ p_active 0x4004000000000000 (3 ∷ []) ∷ b0 ∷ []) []
+    (ran 1 [] 0 1 ∷ holds (p0 ∷ c0 ∷ s_passive inf ((3, Some 0, None) ∷ []) ∷ b_batching 0x3fd5555555555555 (3 ∷ []) ∷ p_active 0x4004000000000000 (3 ∷ []) ∷ b0 ∷ []) [] ∷ ran 2 ((255, 1, 255, 1, 0x4004000000000000, 3) ∷ []) 0x4004000000000000 1 ∷ holds (p0 ∷ c0 ∷ s_passive inf ((3, Some 0, None) ∷ []) ∷ b0 ∷ p_passive 0 [] ∷ b0 ∷ []) ((255, 1, 255, 1, 0x4004000000000000, 3) ∷ []) ∷ ran 1 [] 0x4004000000000000 2 ∷ [])
+    (p0 ∷ c0 ∷ s_passive inf ((3, Some 0x4004000000000000, None) ∷ []) ∷ b_batching 0x3fd5555555555555 (3 ∷ []) ∷ p_active 0x4004000000000000 (3 ∷ []) ∷ b0 ∷ []) []
 unfolding play
 case-046 = refl
 
@@ -276,7 +275,7 @@ pub case-050 :
     (0x3ff0000000000000 ∷ 0x401c000000000000 ∷ 0x4010000000000000 ∷ [])
     (job 1 4 3 ∷ job 2 4 3 ∷ job 9 1 2 ∷ inject 65535 3 9 2 0x401c000000000000 3 ∷ inject 0 0 6 1 0x401c000000000000 2 ∷ job 1 1 1 ∷ inject 65535 3 1 2 0 1 ∷ job 1 2 2 ∷ inject 5 3 7 4 0 2 ∷ job 6 1 1 ∷ steps 4 ∷ look ∷ step ∷ look ∷ job 6 1 1 ∷ step ∷ look ∷ step ∷ look ∷ steps 3 ∷ look ∷ inject 5 3 7 4 0 3 ∷ until 0x4031000000000000 0 ∷ look ∷ until 0x4024333333333333 502 ∷ [])
     ≡ seen
-    (ran 4 ((7, 1, 9, 1, 0x3ff0000000000000, 2) ∷ (7, 1, 9, 1, 0x3ff0000000000000, 2) ∷ (6, 1, 7, 4, 0x3ff0000000000000, 2) ∷ (7, 1, 9, 1, 0x4000000000000000, 2) ∷ (7, 1, 9, 1, 0x4000000000000000, 2) ∷ []) 0x4000000000000000 1 ∷ holds (c0 ∷ b0 ∷ c0 ∷ s_passive inf ((2, none, some 0x3ff0000000000000) ∷ (3, some 0, none) ∷ []) ∷ p0 ∷ []) ((7, 1, 9, 1, 0x4000000000000000, 2) ∷ (7, 1, 9, 1, 0x4000000000000000, 2) ∷ []) ∷ ran 1 [] 0x4000000000000000 1 ∷ holds (c0 ∷ b0 ∷ c0 ∷ s_passive inf ((2, none, some 0x4000000000000000) ∷ (3, some 0, none) ∷ []) ∷ p0 ∷ []) [] ∷ ran 1 [] 0x4000000000000000 2 ∷ holds (c0 ∷ b0 ∷ c0 ∷ s_passive inf ((2, none, some 0x4000000000000000) ∷ (3, some 0, none) ∷ []) ∷ p_active 0x401c000000000000 (1 ∷ []) ∷ []) [] ∷ ran 1 ((6, 1, 7, 4, 0x4022000000000000, 1) ∷ []) 0x4022000000000000 2 ∷ holds (c0 ∷ b0 ∷ c0 ∷ s_passive inf ((2, none, some 0x4000000000000000) ∷ (3, some 0, none) ∷ []) ∷ p_passive 0 [] ∷ []) ((6, 1, 7, 4, 0x4022000000000000, 1) ∷ []) ∷ ran 3 ((7, 1, 9, 1, 0x4024000000000000, 1) ∷ (7, 1, 9, 1, 0x4024000000000000, 1) ∷ []) 0x4024000000000000 2 ∷ holds (c0 ∷ b0 ∷ c0 ∷ s_passive inf ((2, none, some 0x4000000000000000) ∷ (3, some 0, none) ∷ (1, none, some 0x4024000000000000) ∷ []) ∷ p0 ∷ []) [] ∷ spent 0 [] 0x4024000000000000 2 ∷ holds (c0 ∷ b0 ∷ c0 ∷ s_passive inf ((2, none, some 0x4000000000000000) ∷ (3, some 0, none) ∷ (1, none, some 0x4024000000000000) ∷ []) ∷ p0 ∷ []) ((5, 3, 7, 4, 0, 3) ∷ []) ∷ reached 2 [] 0x4026000000000000 2 ∷ [])
-    (c0 ∷ b0 ∷ c0 ∷ s_passive inf ((2, none, some 0x4000000000000000) ∷ (3, some 0, none) ∷ (1, none, some 0x4024000000000000) ∷ []) ∷ p0 ∷ []) ((7, 1, 9, 1, 0x4026000000000000, 3) ∷ (7, 1, 9, 1, 0x4026000000000000, 3) ∷ [])
+    (ran 4 ((7, 1, 9, 1, 0x3ff0000000000000, 2) ∷ (7, 1, 9, 1, 0x3ff0000000000000, 2) ∷ (6, 1, 7, 4, 0x3ff0000000000000, 2) ∷ (7, 1, 9, 1, 0x4000000000000000, 2) ∷ (7, 1, 9, 1, 0x4000000000000000, 2) ∷ []) 0x4000000000000000 1 ∷ holds (c0 ∷ b0 ∷ c0 ∷ s_passive inf ((2, None, Some 0x3ff0000000000000) ∷ (3, Some 0, None) ∷ []) ∷ p0 ∷ []) ((7, 1, 9, 1, 0x4000000000000000, 2) ∷ (7, 1, 9, 1, 0x4000000000000000, 2) ∷ []) ∷ ran 1 [] 0x4000000000000000 1 ∷ holds (c0 ∷ b0 ∷ c0 ∷ s_passive inf ((2, None, Some 0x4000000000000000) ∷ (3, Some 0, None) ∷ []) ∷ p0 ∷ []) [] ∷ ran 1 [] 0x4000000000000000 2 ∷ holds (c0 ∷ b0 ∷ c0 ∷ s_passive inf ((2, None, Some 0x4000000000000000) ∷ (3, Some 0, None) ∷ []) ∷ p_active 0x401c000000000000 (1 ∷ []) ∷ []) [] ∷ ran 1 ((6, 1, 7, 4, 0x4022000000000000, 1) ∷ []) 0x4022000000000000 2 ∷ holds (c0 ∷ b0 ∷ c0 ∷ s_passive inf ((2, None, Some 0x4000000000000000) ∷ (3, Some 0, None) ∷ []) ∷ p_passive 0 [] ∷ []) ((6, 1, 7, 4, 0x4022000000000000, 1) ∷ []) ∷ ran 3 ((7, 1, 9, 1, 0x4024000000000000, 1) ∷ (7, 1, 9, 1, 0x4024000000000000, 1) ∷ []) 0x4024000000000000 2 ∷ holds (c0 ∷ b0 ∷ c0 ∷ s_passive inf ((2, None, Some 0x4000000000000000) ∷ (3, Some 0, None) ∷ (1, None, Some 0x4024000000000000) ∷ []) ∷ p0 ∷ []) [] ∷ spent 0 [] 0x4024000000000000 2 ∷ holds (c0 ∷ b0 ∷ c0 ∷ s_passive inf ((2, None, Some 0x4000000000000000) ∷ (3, Some 0, None) ∷ (1, None, Some 0x4024000000000000) ∷ []) ∷ p0 ∷ []) ((5, 3, 7, 4, 0, 3) ∷ []) ∷ reached 2 [] 0x4026000000000000 2 ∷ [])
+    (c0 ∷ b0 ∷ c0 ∷ s_passive inf ((2, None, Some 0x4000000000000000) ∷ (3, Some 0, None) ∷ (1, None, Some 0x4024000000000000) ∷ []) ∷ p0 ∷ []) ((7, 1, 9, 1, 0x4026000000000000, 3) ∷ (7, 1, 9, 1, 0x4026000000000000, 3) ∷ [])
 unfolding play
 case-050 = refl

@@ -1,6 +1,5 @@
 -- Answers of the oracle, computed over the rules: cases 101 to 125. The number above a case is its script's (--show). Written by oracle/write_cases.py. Assumes nothing.
-use Rattle.std.specs.Prelude.{ℕ, ◌≡◌, refl, List, [], ◌∷◌}
-use Rattle.std.proofs.Math.Option.{Option, none, some}
+use Rattle.std.specs.Prelude.{ℕ, ◌≡◌, refl, List, [], ◌∷◌, Option, None, Some}
 use Rattle.rules.specs.declared.ProcessorPhase.TheVariants as working
 use Rattle.rules.specs.declared.BatcherPhase.TheVariants as batching
 use Rattle.rules.specs.Calls.{OfProcessor, OfBatcher, Mean, ParkedCount}
@@ -24,7 +23,7 @@ pub case-102 :
     (job 4 4 2 ∷ inject 5 3 9 2 0 2 ∷ until 0x3fb999999999999a 503 ∷ look ∷ job 4 2 1 ∷ reset-global-time ∷ steps 0 ∷ look ∷ steps 2 ∷ look ∷ job 4 2 3 ∷ job 8 4 2 ∷ step ∷ look ∷ step ∷ look ∷ until 0x4010000000000000 2 ∷ [])
     ≡ seen
     (reached 3 ((4, 1, 9, 1, 0, 2) ∷ []) 0x3fd5555555555555 0 ∷ holds (s0 ∷ b0 ∷ p0 ∷ b0 ∷ b0 ∷ b0 ∷ b0 ∷ []) [] ∷ ran 0 [] 0 0 ∷ holds (s0 ∷ b0 ∷ p0 ∷ b0 ∷ b0 ∷ b0 ∷ b0 ∷ []) ((0, 0, 4, 2, 0, 1) ∷ []) ∷ ran 2 ((4, 1, 9, 1, 0, 1) ∷ []) 0 0 ∷ holds (s0 ∷ b0 ∷ p0 ∷ b_batching 0x3fd5555555555555 (1 ∷ []) ∷ b0 ∷ b0 ∷ b0 ∷ []) [] ∷ ran 1 ((4, 1, 9, 1, 0, 3) ∷ []) 0 0 ∷ holds (s0 ∷ b_batching 0x3fd2492492492492 (2 ∷ []) ∷ p0 ∷ b_batching 0x3fd5555555555555 (1 ∷ []) ∷ b0 ∷ b0 ∷ b0 ∷ []) ((4, 1, 9, 1, 0, 3) ∷ []) ∷ ran 1 [] 0 0 ∷ holds (s0 ∷ b_batching 0x3fd2492492492492 (2 ∷ []) ∷ p0 ∷ b_batching 0x3fd5555555555555 (1 ∷ 3 ∷ []) ∷ b0 ∷ b0 ∷ b0 ∷ []) [] ∷ spent 2 ((8, 2, 7, 4, 0x3fd2492492492492, 2) ∷ (8, 2, 7, 3, 0x3fd2492492492492, 2) ∷ (8, 2, 5, 4, 0x3fd2492492492492, 2) ∷ []) 0x3fd2492492492492 0 ∷ [])
-    (s_passive inf ((2, some 0x3fd2492492492492, none) ∷ []) ∷ b0 ∷ p0 ∷ b_batching 0x3fa8618618618618 (1 ∷ 3 ∷ []) ∷ b0 ∷ b0 ∷ b_batching 0x401c000000000000 (2 ∷ []) ∷ []) []
+    (s_passive inf ((2, Some 0x3fd2492492492492, None) ∷ []) ∷ b0 ∷ p0 ∷ b_batching 0x3fa8618618618618 (1 ∷ 3 ∷ []) ∷ b0 ∷ b0 ∷ b_batching 0x401c000000000000 (2 ∷ []) ∷ []) []
 unfolding play
 case-102 = refl
 
@@ -67,8 +66,8 @@ pub case-106 :
     (0x3fd2492492492492 ∷ 0x3fd3333333333333 ∷ 0x3fd5555555555555 ∷ 0x3fe6666666666666 ∷ [])
     (inject 0 0 3 2 0x4010000000000000 2 ∷ inject 0 0 2 1 0x401c000000000000 3 ∷ step ∷ look ∷ steps 2 ∷ look ∷ job 3 1 2 ∷ step ∷ look ∷ steps 3 ∷ look ∷ steps 3 ∷ look ∷ step ∷ look ∷ steps 4 ∷ [])
     ≡ seen
-    (ran 1 [] 0 1 ∷ holds (b0 ∷ c0 ∷ c0 ∷ c0 ∷ s_passive inf ((2, some 0, some 0) ∷ []) ∷ p_active 0x3fd2492492492492 (3 ∷ []) ∷ []) [] ∷ ran 2 ((2, 1, 9, 3, 0x3fd2492492492492, 3) ∷ (2, 1, 3, 2, 0x3fd2492492492492, 3) ∷ []) 0x3fd2492492492492 1 ∷ holds (b_batching 0x401c000000000000 (3 ∷ []) ∷ c0 ∷ c0 ∷ c0 ∷ s_passive inf ((2, some 0, some 0) ∷ (3, some 0x3fd2492492492492, some 0x3fd2492492492492) ∷ []) ∷ p0 ∷ []) [] ∷ ran 1 [] 0x3fd2492492492492 1 ∷ holds (b_batching 0x401c000000000000 (3 ∷ []) ∷ c0 ∷ c0 ∷ c0 ∷ s_passive inf ((2, some 0x3fd2492492492492, some 0x3fd2492492492492) ∷ (3, some 0x3fd2492492492492, some 0x3fd2492492492492) ∷ []) ∷ p0 ∷ []) [] ∷ ran 3 ((9, 1, 2, 1, 0x401d249249249249, 3) ∷ (9, 1, 3, 2, 0x401d249249249249, 3) ∷ (2, 1, 9, 3, 0x401e57c57c57c57c, 3) ∷ (2, 1, 3, 2, 0x401e57c57c57c57c, 3) ∷ []) 0x401e57c57c57c57c 2 ∷ holds (b0 ∷ c0 ∷ c0 ∷ c0 ∷ s_passive inf ((2, some 0x3fd2492492492492, some 0x3fd2492492492492) ∷ (3, some 0x401d249249249249, some 0x401d249249249249) ∷ []) ∷ p_passive 0 [] ∷ []) ((2, 1, 9, 3, 0x401e57c57c57c57c, 3) ∷ (2, 1, 3, 2, 0x401e57c57c57c57c, 3) ∷ []) ∷ ran 3 ((9, 1, 2, 1, 0x402d2be2be2be2be, 3) ∷ (9, 1, 3, 2, 0x402d2be2be2be2be, 3) ∷ []) 0x402d2be2be2be2be 3 ∷ holds (b0 ∷ c0 ∷ c0 ∷ c0 ∷ s_passive inf ((2, some 0x3fd2492492492492, some 0x3fd2492492492492) ∷ (3, some 0x402d2be2be2be2be, some 0x402d2be2be2be2be) ∷ []) ∷ p_active 0x3fd5555555555555 (3 ∷ []) ∷ []) [] ∷ ran 1 ((2, 1, 9, 3, 0x402dd68d68d68d69, 3) ∷ (2, 1, 3, 2, 0x402dd68d68d68d69, 3) ∷ []) 0x402dd68d68d68d69 3 ∷ holds (b0 ∷ c0 ∷ c0 ∷ c0 ∷ s_passive inf ((2, some 0x3fd2492492492492, some 0x3fd2492492492492) ∷ (3, some 0x402d2be2be2be2be, some 0x402d2be2be2be2be) ∷ []) ∷ p_passive 0 [] ∷ []) ((2, 1, 9, 3, 0x402dd68d68d68d69, 3) ∷ (2, 1, 3, 2, 0x402dd68d68d68d69, 3) ∷ []) ∷ ran 4 ((9, 1, 2, 1, 0x4035eb46b46b46b4, 3) ∷ (9, 1, 3, 2, 0x4035eb46b46b46b4, 3) ∷ (2, 1, 9, 3, 0x40369e79e79e79e7, 3) ∷ (2, 1, 3, 2, 0x40369e79e79e79e7, 3) ∷ []) 0x40369e79e79e79e7 4 ∷ [])
-    (b0 ∷ c0 ∷ c0 ∷ c0 ∷ s_passive inf ((2, some 0x3fd2492492492492, some 0x3fd2492492492492) ∷ (3, some 0x4035eb46b46b46b4, some 0x4035eb46b46b46b4) ∷ []) ∷ p_passive 0 [] ∷ []) ((2, 1, 9, 3, 0x40369e79e79e79e7, 3) ∷ (2, 1, 3, 2, 0x40369e79e79e79e7, 3) ∷ [])
+    (ran 1 [] 0 1 ∷ holds (b0 ∷ c0 ∷ c0 ∷ c0 ∷ s_passive inf ((2, Some 0, Some 0) ∷ []) ∷ p_active 0x3fd2492492492492 (3 ∷ []) ∷ []) [] ∷ ran 2 ((2, 1, 9, 3, 0x3fd2492492492492, 3) ∷ (2, 1, 3, 2, 0x3fd2492492492492, 3) ∷ []) 0x3fd2492492492492 1 ∷ holds (b_batching 0x401c000000000000 (3 ∷ []) ∷ c0 ∷ c0 ∷ c0 ∷ s_passive inf ((2, Some 0, Some 0) ∷ (3, Some 0x3fd2492492492492, Some 0x3fd2492492492492) ∷ []) ∷ p0 ∷ []) [] ∷ ran 1 [] 0x3fd2492492492492 1 ∷ holds (b_batching 0x401c000000000000 (3 ∷ []) ∷ c0 ∷ c0 ∷ c0 ∷ s_passive inf ((2, Some 0x3fd2492492492492, Some 0x3fd2492492492492) ∷ (3, Some 0x3fd2492492492492, Some 0x3fd2492492492492) ∷ []) ∷ p0 ∷ []) [] ∷ ran 3 ((9, 1, 2, 1, 0x401d249249249249, 3) ∷ (9, 1, 3, 2, 0x401d249249249249, 3) ∷ (2, 1, 9, 3, 0x401e57c57c57c57c, 3) ∷ (2, 1, 3, 2, 0x401e57c57c57c57c, 3) ∷ []) 0x401e57c57c57c57c 2 ∷ holds (b0 ∷ c0 ∷ c0 ∷ c0 ∷ s_passive inf ((2, Some 0x3fd2492492492492, Some 0x3fd2492492492492) ∷ (3, Some 0x401d249249249249, Some 0x401d249249249249) ∷ []) ∷ p_passive 0 [] ∷ []) ((2, 1, 9, 3, 0x401e57c57c57c57c, 3) ∷ (2, 1, 3, 2, 0x401e57c57c57c57c, 3) ∷ []) ∷ ran 3 ((9, 1, 2, 1, 0x402d2be2be2be2be, 3) ∷ (9, 1, 3, 2, 0x402d2be2be2be2be, 3) ∷ []) 0x402d2be2be2be2be 3 ∷ holds (b0 ∷ c0 ∷ c0 ∷ c0 ∷ s_passive inf ((2, Some 0x3fd2492492492492, Some 0x3fd2492492492492) ∷ (3, Some 0x402d2be2be2be2be, Some 0x402d2be2be2be2be) ∷ []) ∷ p_active 0x3fd5555555555555 (3 ∷ []) ∷ []) [] ∷ ran 1 ((2, 1, 9, 3, 0x402dd68d68d68d69, 3) ∷ (2, 1, 3, 2, 0x402dd68d68d68d69, 3) ∷ []) 0x402dd68d68d68d69 3 ∷ holds (b0 ∷ c0 ∷ c0 ∷ c0 ∷ s_passive inf ((2, Some 0x3fd2492492492492, Some 0x3fd2492492492492) ∷ (3, Some 0x402d2be2be2be2be, Some 0x402d2be2be2be2be) ∷ []) ∷ p_passive 0 [] ∷ []) ((2, 1, 9, 3, 0x402dd68d68d68d69, 3) ∷ (2, 1, 3, 2, 0x402dd68d68d68d69, 3) ∷ []) ∷ ran 4 ((9, 1, 2, 1, 0x4035eb46b46b46b4, 3) ∷ (9, 1, 3, 2, 0x4035eb46b46b46b4, 3) ∷ (2, 1, 9, 3, 0x40369e79e79e79e7, 3) ∷ (2, 1, 3, 2, 0x40369e79e79e79e7, 3) ∷ []) 0x40369e79e79e79e7 4 ∷ [])
+    (b0 ∷ c0 ∷ c0 ∷ c0 ∷ s_passive inf ((2, Some 0x3fd2492492492492, Some 0x3fd2492492492492) ∷ (3, Some 0x4035eb46b46b46b4, Some 0x4035eb46b46b46b4) ∷ []) ∷ p_passive 0 [] ∷ []) ((2, 1, 9, 3, 0x40369e79e79e79e7, 3) ∷ (2, 1, 3, 2, 0x40369e79e79e79e7, 3) ∷ [])
 unfolding play
 case-106 = refl
 
@@ -78,8 +77,8 @@ pub case-107 :
     (0x3fb999999999999a ∷ 0x3fb999999999999a ∷ 0x3ff0000000000000 ∷ [])
     (job 9 1 1 ∷ step ∷ look ∷ steps 2 ∷ look ∷ inject 0 0 9 1 0x3ff0000000000000 2 ∷ step ∷ look ∷ reset ∷ steps 2 ∷ look ∷ inject 5 3 4 3 0 1 ∷ job 9 1 3 ∷ step ∷ look ∷ reset ∷ reset ∷ until 0x3fb999999999999a 1 ∷ look ∷ step ∷ look ∷ step ∷ look ∷ until 0x4020000000000000 2 ∷ [])
     ≡ seen
-    (ran 1 [] 0 1 ∷ holds (p_active 0x3fb999999999999a (1 ∷ []) ∷ b0 ∷ s0 ∷ b0 ∷ b0 ∷ c0 ∷ []) [] ∷ ran 2 ((9, 2, 1, 2, 0x3fb999999999999a, 1) ∷ []) 0x3fb999999999999a 1 ∷ holds (p0 ∷ b0 ∷ s_passive inf ((1, none, some 0x3fb999999999999a) ∷ []) ∷ b0 ∷ b0 ∷ c0 ∷ []) [] ∷ ran 1 [] 0x3fb999999999999a 2 ∷ holds (p_active 0x3fb999999999999a (2 ∷ []) ∷ b0 ∷ s_passive inf ((1, none, some 0x3fb999999999999a) ∷ []) ∷ b0 ∷ b0 ∷ c0 ∷ []) [] ∷ ran 2 ((9, 2, 1, 2, 0x3fb999999999999a, 2) ∷ []) 0x3fb999999999999a 2 ∷ holds (p0 ∷ b0 ∷ s_passive inf ((1, none, some 0x3fb999999999999a) ∷ (2, none, some 0x3fb999999999999a) ∷ []) ∷ b0 ∷ b0 ∷ c0 ∷ []) [] ∷ ran 1 [] 0x3fb999999999999a 3 ∷ holds (p_active 0x3ff0000000000000 (3 ∷ []) ∷ b0 ∷ s_passive inf ((1, none, some 0x3fb999999999999a) ∷ (2, none, some 0x3fb999999999999a) ∷ []) ∷ b_batching 0x4010000000000000 (1 ∷ []) ∷ b0 ∷ c0 ∷ []) [] ∷ reached 1 [] 0x3ff0000000000000 3 ∷ holds (p_passive 0 [] ∷ b0 ∷ s_passive inf ((1, none, some 0x3fb999999999999a) ∷ (2, none, some 0x3fb999999999999a) ∷ []) ∷ b_batching 0x4008000000000000 (1 ∷ []) ∷ b0 ∷ c0 ∷ []) ((9, 2, 1, 2, 0x3ff0000000000000, 3) ∷ []) ∷ ran 1 [] 0x3ff0000000000000 3 ∷ holds (p0 ∷ b0 ∷ s_passive inf ((1, none, some 0x3fb999999999999a) ∷ (2, none, some 0x3fb999999999999a) ∷ (3, none, some 0x3ff0000000000000) ∷ []) ∷ b_batching 0x4008000000000000 (1 ∷ []) ∷ b0 ∷ c0 ∷ []) [] ∷ ran 1 ((4, 1, 8, 4, 0x4010000000000000, 1) ∷ (4, 1, 2, 2, 0x4010000000000000, 1) ∷ []) 0x4010000000000000 3 ∷ holds (p0 ∷ b0 ∷ s_passive inf ((1, none, some 0x3fb999999999999a) ∷ (2, none, some 0x3fb999999999999a) ∷ (3, none, some 0x3ff0000000000000) ∷ []) ∷ b0 ∷ b0 ∷ c0 ∷ []) ((4, 1, 8, 4, 0x4010000000000000, 1) ∷ (4, 1, 2, 2, 0x4010000000000000, 1) ∷ []) ∷ spent 2 ((8, 1, 8, 1, 0x4010000000000000, 1) ∷ (8, 1, 8, 1, 0x4010000000000000, 1) ∷ []) 0x4010000000000000 3 ∷ [])
-    (p0 ∷ b0 ∷ s_passive inf ((1, none, some 0x3fb999999999999a) ∷ (2, none, some 0x3fb999999999999a) ∷ (3, none, some 0x3ff0000000000000) ∷ []) ∷ b0 ∷ b0 ∷ c0 ∷ []) ((8, 1, 8, 1, 0x4010000000000000, 1) ∷ [])
+    (ran 1 [] 0 1 ∷ holds (p_active 0x3fb999999999999a (1 ∷ []) ∷ b0 ∷ s0 ∷ b0 ∷ b0 ∷ c0 ∷ []) [] ∷ ran 2 ((9, 2, 1, 2, 0x3fb999999999999a, 1) ∷ []) 0x3fb999999999999a 1 ∷ holds (p0 ∷ b0 ∷ s_passive inf ((1, None, Some 0x3fb999999999999a) ∷ []) ∷ b0 ∷ b0 ∷ c0 ∷ []) [] ∷ ran 1 [] 0x3fb999999999999a 2 ∷ holds (p_active 0x3fb999999999999a (2 ∷ []) ∷ b0 ∷ s_passive inf ((1, None, Some 0x3fb999999999999a) ∷ []) ∷ b0 ∷ b0 ∷ c0 ∷ []) [] ∷ ran 2 ((9, 2, 1, 2, 0x3fb999999999999a, 2) ∷ []) 0x3fb999999999999a 2 ∷ holds (p0 ∷ b0 ∷ s_passive inf ((1, None, Some 0x3fb999999999999a) ∷ (2, None, Some 0x3fb999999999999a) ∷ []) ∷ b0 ∷ b0 ∷ c0 ∷ []) [] ∷ ran 1 [] 0x3fb999999999999a 3 ∷ holds (p_active 0x3ff0000000000000 (3 ∷ []) ∷ b0 ∷ s_passive inf ((1, None, Some 0x3fb999999999999a) ∷ (2, None, Some 0x3fb999999999999a) ∷ []) ∷ b_batching 0x4010000000000000 (1 ∷ []) ∷ b0 ∷ c0 ∷ []) [] ∷ reached 1 [] 0x3ff0000000000000 3 ∷ holds (p_passive 0 [] ∷ b0 ∷ s_passive inf ((1, None, Some 0x3fb999999999999a) ∷ (2, None, Some 0x3fb999999999999a) ∷ []) ∷ b_batching 0x4008000000000000 (1 ∷ []) ∷ b0 ∷ c0 ∷ []) ((9, 2, 1, 2, 0x3ff0000000000000, 3) ∷ []) ∷ ran 1 [] 0x3ff0000000000000 3 ∷ holds (p0 ∷ b0 ∷ s_passive inf ((1, None, Some 0x3fb999999999999a) ∷ (2, None, Some 0x3fb999999999999a) ∷ (3, None, Some 0x3ff0000000000000) ∷ []) ∷ b_batching 0x4008000000000000 (1 ∷ []) ∷ b0 ∷ c0 ∷ []) [] ∷ ran 1 ((4, 1, 8, 4, 0x4010000000000000, 1) ∷ (4, 1, 2, 2, 0x4010000000000000, 1) ∷ []) 0x4010000000000000 3 ∷ holds (p0 ∷ b0 ∷ s_passive inf ((1, None, Some 0x3fb999999999999a) ∷ (2, None, Some 0x3fb999999999999a) ∷ (3, None, Some 0x3ff0000000000000) ∷ []) ∷ b0 ∷ b0 ∷ c0 ∷ []) ((4, 1, 8, 4, 0x4010000000000000, 1) ∷ (4, 1, 2, 2, 0x4010000000000000, 1) ∷ []) ∷ spent 2 ((8, 1, 8, 1, 0x4010000000000000, 1) ∷ (8, 1, 8, 1, 0x4010000000000000, 1) ∷ []) 0x4010000000000000 3 ∷ [])
+    (p0 ∷ b0 ∷ s_passive inf ((1, None, Some 0x3fb999999999999a) ∷ (2, None, Some 0x3fb999999999999a) ∷ (3, None, Some 0x3ff0000000000000) ∷ []) ∷ b0 ∷ b0 ∷ c0 ∷ []) ((8, 1, 8, 1, 0x4010000000000000, 1) ∷ [])
 unfolding play
 case-107 = refl
 
@@ -89,8 +88,8 @@ pub case-108 :
     (0x4010000000000000 ∷ 0x401c000000000000 ∷ 0x4004000000000000 ∷ 0x3fb999999999999a ∷ [])
     (inject 0 0 9 1 0x4010000000000000 3 ∷ job 4 65535 3 ∷ job 8 1 3 ∷ step ∷ look ∷ job 9 1 1 ∷ job 4 65535 3 ∷ job 8 1 3 ∷ steps 4 ∷ look ∷ until 0x4026000000000000 501 ∷ look ∷ inject 0 0 8 1 0x3ff0000000000000 3 ∷ step ∷ look ∷ reset-global-time ∷ until 0 2 ∷ look ∷ steps 1 ∷ [])
     ≡ seen
-    (ran 1 [] 0 1 ∷ holds (c0 ∷ s_passive inf ((3, none, some 0) ∷ []) ∷ p_active 0x4010000000000000 (3 ∷ []) ∷ []) [] ∷ ran 4 ((8, 1, 4, 65535, 0x4010000000000000, 3) ∷ (8, 1, 99, 65535, 0x4010000000000000, 3) ∷ (8, 1, 4, 65535, 0x4026000000000000, 3) ∷ (8, 1, 99, 65535, 0x4026000000000000, 3) ∷ []) 0x4026000000000000 2 ∷ holds (c0 ∷ s_passive inf ((3, none, some 0x4010000000000000) ∷ []) ∷ p_passive 0 [] ∷ []) ((8, 1, 4, 65535, 0x4026000000000000, 3) ∷ (8, 1, 99, 65535, 0x4026000000000000, 3) ∷ []) ∷ reached 1 [] 0x4026000000000000 2 ∷ holds (c0 ∷ s_passive inf ((3, none, some 0x4026000000000000) ∷ []) ∷ p0 ∷ []) [] ∷ ran 1 [] 0x4026000000000000 3 ∷ holds (c0 ∷ s_passive inf ((3, none, some 0x4026000000000000) ∷ []) ∷ p_active 0x4004000000000000 (3 ∷ []) ∷ []) [] ∷ reached 1 [] 0x4004000000000000 3 ∷ holds (c0 ∷ s_passive inf ((3, none, some 0x4026000000000000) ∷ []) ∷ p_passive 0 [] ∷ []) ((8, 1, 4, 65535, 0x4004000000000000, 3) ∷ (8, 1, 99, 65535, 0x4004000000000000, 3) ∷ []) ∷ ran 1 [] 0x4004000000000000 3 ∷ [])
-    (c0 ∷ s_passive inf ((3, none, some 0x4004000000000000) ∷ []) ∷ p0 ∷ []) []
+    (ran 1 [] 0 1 ∷ holds (c0 ∷ s_passive inf ((3, None, Some 0) ∷ []) ∷ p_active 0x4010000000000000 (3 ∷ []) ∷ []) [] ∷ ran 4 ((8, 1, 4, 65535, 0x4010000000000000, 3) ∷ (8, 1, 99, 65535, 0x4010000000000000, 3) ∷ (8, 1, 4, 65535, 0x4026000000000000, 3) ∷ (8, 1, 99, 65535, 0x4026000000000000, 3) ∷ []) 0x4026000000000000 2 ∷ holds (c0 ∷ s_passive inf ((3, None, Some 0x4010000000000000) ∷ []) ∷ p_passive 0 [] ∷ []) ((8, 1, 4, 65535, 0x4026000000000000, 3) ∷ (8, 1, 99, 65535, 0x4026000000000000, 3) ∷ []) ∷ reached 1 [] 0x4026000000000000 2 ∷ holds (c0 ∷ s_passive inf ((3, None, Some 0x4026000000000000) ∷ []) ∷ p0 ∷ []) [] ∷ ran 1 [] 0x4026000000000000 3 ∷ holds (c0 ∷ s_passive inf ((3, None, Some 0x4026000000000000) ∷ []) ∷ p_active 0x4004000000000000 (3 ∷ []) ∷ []) [] ∷ reached 1 [] 0x4004000000000000 3 ∷ holds (c0 ∷ s_passive inf ((3, None, Some 0x4026000000000000) ∷ []) ∷ p_passive 0 [] ∷ []) ((8, 1, 4, 65535, 0x4004000000000000, 3) ∷ (8, 1, 99, 65535, 0x4004000000000000, 3) ∷ []) ∷ ran 1 [] 0x4004000000000000 3 ∷ [])
+    (c0 ∷ s_passive inf ((3, None, Some 0x4004000000000000) ∷ []) ∷ p0 ∷ []) []
 unfolding play
 case-108 = refl
 
@@ -111,8 +110,8 @@ pub case-110 :
     []
     (job 4 255 1 ∷ job 4 255 1 ∷ job 4 1 2 ∷ put_in (coup 8 0 ∷ coup 7 8 ∷ proc 6 0 1 255 32 ∷ most 4 0 256 1 255 1 ∷ []) (link 6 255 8 255 ∷ link 4 1 4 9 ∷ link 8 1 6 1 ∷ link 8 1 4 1 ∷ link 8 1 6 1 ∷ link 6 255 99 65534 ∷ link 8 255 4 255 ∷ []) (inner 8 7 1 98 65534 ∷ inner 8 7 255 7 255 ∷ inner 8 7 256 7 65534 ∷ into 8 255 7 255 ∷ into 8 255 7 1 ∷ out 8 7 65534 1 ∷ out 8 7 256 255 ∷ out 8 7 255 1 ∷ []) ∷ steps 1 ∷ look ∷ job 4 256 2 ∷ step ∷ look ∷ job 4 255 2 ∷ job 4 255 2 ∷ steps 0 ∷ look ∷ step ∷ look ∷ until 0x4004000000000000 500 ∷ [])
     ≡ seen
-    (ran 1 [] 0 0 ∷ holds (c0 ∷ c0 ∷ p0 ∷ s_passive inf ((2, none, some 0) ∷ []) ∷ []) [] ∷ ran 1 [] 0 0 ∷ holds (c0 ∷ c0 ∷ p0 ∷ s_passive inf ((2, some 0, some 0) ∷ []) ∷ []) [] ∷ ran 0 [] 0 0 ∷ holds (c0 ∷ c0 ∷ p0 ∷ s_passive inf ((2, some 0, some 0) ∷ []) ∷ []) ((0, 0, 4, 255, 0, 2) ∷ (0, 0, 4, 255, 0, 2) ∷ []) ∷ ran 1 ((4, 1, 4, 9, 0, 2) ∷ []) 0 0 ∷ holds (c0 ∷ c0 ∷ p0 ∷ s_passive inf ((2, some 0, some 0) ∷ []) ∷ []) ((4, 1, 4, 9, 0, 2) ∷ []) ∷ stopped 5 0 [] 0 0 ∷ [])
-    (c0 ∷ c0 ∷ p0 ∷ s_passive inf ((2, some 0, some 0) ∷ []) ∷ []) ((4, 1, 4, 9, 0, 2) ∷ [])
+    (ran 1 [] 0 0 ∷ holds (c0 ∷ c0 ∷ p0 ∷ s_passive inf ((2, None, Some 0) ∷ []) ∷ []) [] ∷ ran 1 [] 0 0 ∷ holds (c0 ∷ c0 ∷ p0 ∷ s_passive inf ((2, Some 0, Some 0) ∷ []) ∷ []) [] ∷ ran 0 [] 0 0 ∷ holds (c0 ∷ c0 ∷ p0 ∷ s_passive inf ((2, Some 0, Some 0) ∷ []) ∷ []) ((0, 0, 4, 255, 0, 2) ∷ (0, 0, 4, 255, 0, 2) ∷ []) ∷ ran 1 ((4, 1, 4, 9, 0, 2) ∷ []) 0 0 ∷ holds (c0 ∷ c0 ∷ p0 ∷ s_passive inf ((2, Some 0, Some 0) ∷ []) ∷ []) ((4, 1, 4, 9, 0, 2) ∷ []) ∷ stopped 5 0 [] 0 0 ∷ [])
+    (c0 ∷ c0 ∷ p0 ∷ s_passive inf ((2, Some 0, Some 0) ∷ []) ∷ []) ((4, 1, 4, 9, 0, 2) ∷ [])
 unfolding play
 case-110 = refl
 
@@ -188,8 +187,8 @@ pub case-117 :
     (0x4010000000000000 ∷ [])
     (job 7 2 3 ∷ job 6 1 3 ∷ job 7 2 1 ∷ job 6 1 3 ∷ job 6 1 3 ∷ inject 5 3 7 2 0 1 ∷ step ∷ look ∷ job 6 1 2 ∷ job 7 1 1 ∷ steps 3 ∷ look ∷ job 6 4 1 ∷ steps 3 ∷ [])
     ≡ seen
-    (ran 1 [] 0 1 ∷ holds (c0 ∷ c0 ∷ s_passive inf ((3, none, some 0) ∷ (1, none, some 0) ∷ []) ∷ p_active 0x4010000000000000 (3 ∷ []) ∷ []) [] ∷ ran 3 ((6, 1, 7, 1, 0x4010000000000000, 3) ∷ (6, 1, 7, 3, 0x4010000000000000, 3) ∷ []) 0x4010000000000000 1 ∷ holds (c0 ∷ c0 ∷ s_passive inf ((3, none, some 0) ∷ (1, none, some 0) ∷ []) ∷ p0 ∷ []) [] ∷ stopped 5 0 [] 0x4010000000000000 1 ∷ [])
-    (c0 ∷ c0 ∷ s_passive inf ((3, none, some 0) ∷ (1, none, some 0) ∷ []) ∷ p0 ∷ []) ((0, 0, 6, 4, 0, 1) ∷ [])
+    (ran 1 [] 0 1 ∷ holds (c0 ∷ c0 ∷ s_passive inf ((3, None, Some 0) ∷ (1, None, Some 0) ∷ []) ∷ p_active 0x4010000000000000 (3 ∷ []) ∷ []) [] ∷ ran 3 ((6, 1, 7, 1, 0x4010000000000000, 3) ∷ (6, 1, 7, 3, 0x4010000000000000, 3) ∷ []) 0x4010000000000000 1 ∷ holds (c0 ∷ c0 ∷ s_passive inf ((3, None, Some 0) ∷ (1, None, Some 0) ∷ []) ∷ p0 ∷ []) [] ∷ stopped 5 0 [] 0x4010000000000000 1 ∷ [])
+    (c0 ∷ c0 ∷ s_passive inf ((3, None, Some 0) ∷ (1, None, Some 0) ∷ []) ∷ p0 ∷ []) ((0, 0, 6, 4, 0, 1) ∷ [])
 unfolding play
 case-117 = refl
 
@@ -199,7 +198,7 @@ pub case-118 :
     (0 ∷ 0x3fd5555555555555 ∷ 0 ∷ 0x4004000000000000 ∷ 0x3fd3333333333333 ∷ [])
     (inject 65535 3 4 256 0 7 ∷ job 4 256 7 ∷ job 1 256 0 ∷ job 4 256 7 ∷ inject 5 3 1 256 0x3fb999999999999a 4294967295 ∷ inject 0 0 4 256 0x401c000000000000 0 ∷ steps 2 ∷ look ∷ step ∷ look ∷ steps 3 ∷ look ∷ put_in (proc 6 0 256 256 3 ∷ least 7 0 256 1 255 256 ∷ proc 9 0 256 256 3 ∷ proc 5 0 256 255 8 ∷ coup 3 0 ∷ bat 2 3 256 256 2 0x3fb999999999999a ∷ []) (link 6 256 5 256 ∷ link 6 256 99 1 ∷ link 5 255 3 256 ∷ link 3 256 7 255 ∷ link 3 256 5 256 ∷ link 9 256 7 256 ∷ link 3 256 7 1 ∷ link 7 256 3 256 ∷ link 7 256 9 256 ∷ link 3 256 7 256 ∷ []) (into 3 256 2 0 ∷ into 3 256 2 0 ∷ out 3 2 256 256 ∷ into 3 256 2 255 ∷ []) ∷ job 6 256 2147483648 ∷ until 0x3ff0000000000000 3 ∷ [])
     ≡ seen
-    (ran 2 [] 0 3 ∷ holds (c0 ∷ parks ((6, 256, 7) ∷ (6, 256, 7) ∷ (6, 256, 0) ∷ (6, 256, 0) ∷ []) ∷ b0 ∷ b_release 0 (7 ∷ 7 ∷ 7 ∷ []) ∷ p_active 0x3fd5555555555555 (0 ∷ 4294967295 ∷ []) ∷ s_passive inf ((7, none, some 0) ∷ (0, none, some 0) ∷ []) ∷ p_active 0 (7 ∷ []) ∷ []) [] ∷ ran 1 [] 0 3 ∷ holds (c0 ∷ c0 ∷ b0 ∷ b_release 0 (7 ∷ 7 ∷ 7 ∷ 7 ∷ 0 ∷ 0 ∷ []) ∷ p_active 0x3fd5555555555555 (0 ∷ 4294967295 ∷ []) ∷ s_passive inf ((7, none, some 0) ∷ (0, none, some 0) ∷ []) ∷ p_passive 0 [] ∷ []) [] ∷ ran 3 [] 0 3 ∷ holds (c0 ∷ c0 ∷ b0 ∷ b_release 0 (7 ∷ 0 ∷ 0 ∷ []) ∷ p_active 0x3fd5555555555555 (0 ∷ 4294967295 ∷ []) ∷ s_passive inf ((7, none, some 0) ∷ (0, none, some 0) ∷ []) ∷ p0 ∷ []) [] ∷ reached 2 [] 0x4004000000000000 4 ∷ [])
+    (ran 2 [] 0 3 ∷ holds (c0 ∷ parks ((6, 256, 7) ∷ (6, 256, 7) ∷ (6, 256, 0) ∷ (6, 256, 0) ∷ []) ∷ b0 ∷ b_release 0 (7 ∷ 7 ∷ 7 ∷ []) ∷ p_active 0x3fd5555555555555 (0 ∷ 4294967295 ∷ []) ∷ s_passive inf ((7, None, Some 0) ∷ (0, None, Some 0) ∷ []) ∷ p_active 0 (7 ∷ []) ∷ []) [] ∷ ran 1 [] 0 3 ∷ holds (c0 ∷ c0 ∷ b0 ∷ b_release 0 (7 ∷ 7 ∷ 7 ∷ 7 ∷ 0 ∷ 0 ∷ []) ∷ p_active 0x3fd5555555555555 (0 ∷ 4294967295 ∷ []) ∷ s_passive inf ((7, None, Some 0) ∷ (0, None, Some 0) ∷ []) ∷ p_passive 0 [] ∷ []) [] ∷ ran 3 [] 0 3 ∷ holds (c0 ∷ c0 ∷ b0 ∷ b_release 0 (7 ∷ 0 ∷ 0 ∷ []) ∷ p_active 0x3fd5555555555555 (0 ∷ 4294967295 ∷ []) ∷ s_passive inf ((7, None, Some 0) ∷ (0, None, Some 0) ∷ []) ∷ p0 ∷ []) [] ∷ reached 2 [] 0x4004000000000000 4 ∷ [])
     (p_passive 0 [] ∷ s0 ∷ p0 ∷ p0 ∷ c0 ∷ b0 ∷ []) ((6, 256, 5, 256, 0x4004000000000000, 2147483648) ∷ (6, 256, 99, 1, 0x4004000000000000, 2147483648) ∷ [])
 unfolding play
 case-118 = refl
@@ -210,8 +209,8 @@ pub case-119 :
     (0x3fd3333333333333 ∷ [])
     (job 9 1 1 ∷ job 9 1 2 ∷ inject 0 0 9 1 0x3fb999999999999a 2 ∷ step ∷ look ∷ inject 0 0 8 4 0x4010000000000000 3 ∷ steps 0 ∷ look ∷ until 0 1 ∷ look ∷ status 7 ∷ steps 0 ∷ look ∷ until 0 501 ∷ look ∷ job 9 1 2 ∷ inject 0 0 8 2 0x3fd5555555555555 2 ∷ until 0x400c000000000000 3 ∷ look ∷ inject 0 0 8 4 0x3fb999999999999a 3 ∷ steps 2 ∷ [])
     ≡ seen
-    (ran 1 [] 0 0 ∷ holds (c0 ∷ p0 ∷ s_passive inf ((1, some 0, none) ∷ (2, some 0, none) ∷ []) ∷ b0 ∷ []) [] ∷ ran 0 [] 0 0 ∷ holds (c0 ∷ p0 ∷ s_passive inf ((1, some 0, none) ∷ (2, some 0, none) ∷ []) ∷ b0 ∷ []) ((0, 0, 8, 4, 0x4010000000000000, 3) ∷ []) ∷ reached 1 [] 0 0 ∷ holds (c0 ∷ p0 ∷ s_passive inf ((1, some 0, none) ∷ (2, some 0, none) ∷ []) ∷ b_batching 0x4004000000000000 (3 ∷ []) ∷ []) [] ∷ refuses 4 ∷ ran 0 [] 0 0 ∷ holds (c0 ∷ p0 ∷ s_passive inf ((1, some 0, none) ∷ (2, some 0, none) ∷ []) ∷ b_batching 0x4004000000000000 (3 ∷ []) ∷ []) [] ∷ reached 1 [] 0x4004000000000000 0 ∷ holds (c0 ∷ p0 ∷ s_passive inf ((1, some 0, none) ∷ (2, some 0, none) ∷ []) ∷ b0 ∷ []) [] ∷ reached 2 [] 0x4014000000000000 0 ∷ holds (c0 ∷ p0 ∷ s_passive inf ((1, some 0, none) ∷ (2, some 0x4004000000000000, none) ∷ []) ∷ b0 ∷ []) [] ∷ ran 2 [] 0x401e000000000000 0 ∷ [])
-    (c0 ∷ p0 ∷ s_passive inf ((1, some 0, none) ∷ (2, some 0x4004000000000000, none) ∷ []) ∷ b0 ∷ []) []
+    (ran 1 [] 0 0 ∷ holds (c0 ∷ p0 ∷ s_passive inf ((1, Some 0, None) ∷ (2, Some 0, None) ∷ []) ∷ b0 ∷ []) [] ∷ ran 0 [] 0 0 ∷ holds (c0 ∷ p0 ∷ s_passive inf ((1, Some 0, None) ∷ (2, Some 0, None) ∷ []) ∷ b0 ∷ []) ((0, 0, 8, 4, 0x4010000000000000, 3) ∷ []) ∷ reached 1 [] 0 0 ∷ holds (c0 ∷ p0 ∷ s_passive inf ((1, Some 0, None) ∷ (2, Some 0, None) ∷ []) ∷ b_batching 0x4004000000000000 (3 ∷ []) ∷ []) [] ∷ refuses 4 ∷ ran 0 [] 0 0 ∷ holds (c0 ∷ p0 ∷ s_passive inf ((1, Some 0, None) ∷ (2, Some 0, None) ∷ []) ∷ b_batching 0x4004000000000000 (3 ∷ []) ∷ []) [] ∷ reached 1 [] 0x4004000000000000 0 ∷ holds (c0 ∷ p0 ∷ s_passive inf ((1, Some 0, None) ∷ (2, Some 0, None) ∷ []) ∷ b0 ∷ []) [] ∷ reached 2 [] 0x4014000000000000 0 ∷ holds (c0 ∷ p0 ∷ s_passive inf ((1, Some 0, None) ∷ (2, Some 0x4004000000000000, None) ∷ []) ∷ b0 ∷ []) [] ∷ ran 2 [] 0x401e000000000000 0 ∷ [])
+    (c0 ∷ p0 ∷ s_passive inf ((1, Some 0, None) ∷ (2, Some 0x4004000000000000, None) ∷ []) ∷ b0 ∷ []) []
 unfolding play
 case-119 = refl
 
@@ -221,8 +220,8 @@ pub case-120 :
     (0x3fe6666666666666 ∷ 0x3fe6666666666666 ∷ 0x4010000000000000 ∷ [])
     (inject 65535 3 9 1 0 1 ∷ inject 0 0 9 1 0x3fb999999999999a 1 ∷ inject 0 0 8 1 0x3e112e0be826d695 1 ∷ inject 65535 3 7 3 0 3 ∷ job 7 1 3 ∷ step ∷ look ∷ until 0 501 ∷ look ∷ step ∷ look ∷ status 9 ∷ step ∷ look ∷ step ∷ look ∷ until 0x3fe6666666666666 2 ∷ [])
     ≡ seen
-    (ran 1 [] 0 1 ∷ holds (s_passive inf ((3, some 0, none) ∷ []) ∷ p0 ∷ s0 ∷ b0 ∷ p_active 0x3fe6666666666666 (1 ∷ 1 ∷ []) ∷ b0 ∷ []) [] ∷ reached 1 [] 0x3fe6666666666666 1 ∷ holds (s_passive inf ((3, some 0, none) ∷ []) ∷ p0 ∷ s0 ∷ b0 ∷ p_passive 0 (1 ∷ []) ∷ b0 ∷ []) ((9, 2, 4, 4, 0x3fe6666666666666, 1) ∷ (9, 2, 7, 1, 0x3fe6666666666666, 1) ∷ []) ∷ ran 1 ((4, 2, 8, 1, 0x3fe6666666666666, 1) ∷ (4, 2, 7, 3, 0x3fe6666666666666, 1) ∷ (4, 2, 4, 1, 0x3fe6666666666666, 1) ∷ []) 0x3fe6666666666666 2 ∷ holds (s_passive inf ((3, some 0, none) ∷ (1, some 0x3fe6666666666666, none) ∷ []) ∷ p0 ∷ s0 ∷ b0 ∷ p_active 0x3fe6666666666666 (1 ∷ []) ∷ b0 ∷ []) ((4, 2, 8, 1, 0x3fe6666666666666, 1) ∷ (4, 2, 7, 3, 0x3fe6666666666666, 1) ∷ (4, 2, 4, 1, 0x3fe6666666666666, 1) ∷ []) ∷ says (OfProcessor working.Active) ∷ ran 1 ((4, 2, 8, 1, 0x3fe6666666666666, 1) ∷ (4, 2, 7, 3, 0x3fe6666666666666, 1) ∷ (4, 2, 4, 1, 0x3fe6666666666666, 1) ∷ []) 0x3fe6666666666666 2 ∷ holds (s_passive inf ((3, some 0, none) ∷ (1, some 0x3fe6666666666666, none) ∷ []) ∷ p0 ∷ s0 ∷ b0 ∷ p_active 0x3fe6666666666666 (1 ∷ []) ∷ b0 ∷ []) ((4, 2, 8, 1, 0x3fe6666666666666, 1) ∷ (4, 2, 7, 3, 0x3fe6666666666666, 1) ∷ (4, 2, 4, 1, 0x3fe6666666666666, 1) ∷ []) ∷ ran 1 ((4, 2, 8, 1, 0x3fe6666666666666, 1) ∷ (4, 2, 7, 3, 0x3fe6666666666666, 1) ∷ (4, 2, 4, 1, 0x3fe6666666666666, 1) ∷ []) 0x3fe6666666666666 2 ∷ holds (s_passive inf ((3, some 0, none) ∷ (1, some 0x3fe6666666666666, none) ∷ []) ∷ p0 ∷ s0 ∷ b0 ∷ p_active 0x3fe6666666666666 (1 ∷ []) ∷ b0 ∷ []) ((4, 2, 8, 1, 0x3fe6666666666666, 1) ∷ (4, 2, 7, 3, 0x3fe6666666666666, 1) ∷ (4, 2, 4, 1, 0x3fe6666666666666, 1) ∷ []) ∷ reached 1 [] 0x3fe6666666666666 2 ∷ [])
-    (s_passive inf ((3, some 0, none) ∷ (1, some 0x3fe6666666666666, none) ∷ []) ∷ p0 ∷ s0 ∷ b0 ∷ p_active 0x3fe6666666666666 (1 ∷ []) ∷ b0 ∷ []) ((4, 2, 8, 1, 0x3fe6666666666666, 1) ∷ (4, 2, 7, 3, 0x3fe6666666666666, 1) ∷ (4, 2, 4, 1, 0x3fe6666666666666, 1) ∷ [])
+    (ran 1 [] 0 1 ∷ holds (s_passive inf ((3, Some 0, None) ∷ []) ∷ p0 ∷ s0 ∷ b0 ∷ p_active 0x3fe6666666666666 (1 ∷ 1 ∷ []) ∷ b0 ∷ []) [] ∷ reached 1 [] 0x3fe6666666666666 1 ∷ holds (s_passive inf ((3, Some 0, None) ∷ []) ∷ p0 ∷ s0 ∷ b0 ∷ p_passive 0 (1 ∷ []) ∷ b0 ∷ []) ((9, 2, 4, 4, 0x3fe6666666666666, 1) ∷ (9, 2, 7, 1, 0x3fe6666666666666, 1) ∷ []) ∷ ran 1 ((4, 2, 8, 1, 0x3fe6666666666666, 1) ∷ (4, 2, 7, 3, 0x3fe6666666666666, 1) ∷ (4, 2, 4, 1, 0x3fe6666666666666, 1) ∷ []) 0x3fe6666666666666 2 ∷ holds (s_passive inf ((3, Some 0, None) ∷ (1, Some 0x3fe6666666666666, None) ∷ []) ∷ p0 ∷ s0 ∷ b0 ∷ p_active 0x3fe6666666666666 (1 ∷ []) ∷ b0 ∷ []) ((4, 2, 8, 1, 0x3fe6666666666666, 1) ∷ (4, 2, 7, 3, 0x3fe6666666666666, 1) ∷ (4, 2, 4, 1, 0x3fe6666666666666, 1) ∷ []) ∷ says (OfProcessor working.Active) ∷ ran 1 ((4, 2, 8, 1, 0x3fe6666666666666, 1) ∷ (4, 2, 7, 3, 0x3fe6666666666666, 1) ∷ (4, 2, 4, 1, 0x3fe6666666666666, 1) ∷ []) 0x3fe6666666666666 2 ∷ holds (s_passive inf ((3, Some 0, None) ∷ (1, Some 0x3fe6666666666666, None) ∷ []) ∷ p0 ∷ s0 ∷ b0 ∷ p_active 0x3fe6666666666666 (1 ∷ []) ∷ b0 ∷ []) ((4, 2, 8, 1, 0x3fe6666666666666, 1) ∷ (4, 2, 7, 3, 0x3fe6666666666666, 1) ∷ (4, 2, 4, 1, 0x3fe6666666666666, 1) ∷ []) ∷ ran 1 ((4, 2, 8, 1, 0x3fe6666666666666, 1) ∷ (4, 2, 7, 3, 0x3fe6666666666666, 1) ∷ (4, 2, 4, 1, 0x3fe6666666666666, 1) ∷ []) 0x3fe6666666666666 2 ∷ holds (s_passive inf ((3, Some 0, None) ∷ (1, Some 0x3fe6666666666666, None) ∷ []) ∷ p0 ∷ s0 ∷ b0 ∷ p_active 0x3fe6666666666666 (1 ∷ []) ∷ b0 ∷ []) ((4, 2, 8, 1, 0x3fe6666666666666, 1) ∷ (4, 2, 7, 3, 0x3fe6666666666666, 1) ∷ (4, 2, 4, 1, 0x3fe6666666666666, 1) ∷ []) ∷ reached 1 [] 0x3fe6666666666666 2 ∷ [])
+    (s_passive inf ((3, Some 0, None) ∷ (1, Some 0x3fe6666666666666, None) ∷ []) ∷ p0 ∷ s0 ∷ b0 ∷ p_active 0x3fe6666666666666 (1 ∷ []) ∷ b0 ∷ []) ((4, 2, 8, 1, 0x3fe6666666666666, 1) ∷ (4, 2, 7, 3, 0x3fe6666666666666, 1) ∷ (4, 2, 4, 1, 0x3fe6666666666666, 1) ∷ [])
 unfolding play
 case-120 = refl
 
@@ -232,8 +231,8 @@ pub case-121 :
     (0 ∷ 0x3ff0000000000000 ∷ 0x3fb999999999999a ∷ 0x3e112e0be826d695 ∷ [])
     (job 97 3 2 ∷ job 256 1 2 ∷ step ∷ look ∷ step ∷ look ∷ step ∷ look ∷ inject 65535 3 255 1 0 1 ∷ until 0x3fd2492492492492 2 ∷ look ∷ status 256 ∷ inject 65535 3 256 1 0 2 ∷ job 2 2 1 ∷ until 0x3ff4924924924924 1 ∷ [])
     ≡ seen
-    (ran 1 ((256, 2, 2, 1, 0, 2) ∷ []) 0 1 ∷ holds (c0 ∷ c0 ∷ b0 ∷ p_passive 0 [] ∷ p0 ∷ s0 ∷ []) ((256, 2, 2, 1, 0, 2) ∷ []) ∷ ran 1 [] 0 1 ∷ holds (c0 ∷ c0 ∷ b_batching 0x3fd2492492492492 (2 ∷ []) ∷ p0 ∷ p0 ∷ s_passive inf ((2, none, some 0) ∷ []) ∷ []) [] ∷ ran 1 [] 0x3fd2492492492492 1 ∷ holds (c0 ∷ c0 ∷ b0 ∷ p0 ∷ p0 ∷ s_passive inf ((2, none, some 0) ∷ []) ∷ []) [] ∷ reached 1 [] 0x3fd2492492492492 2 ∷ holds (c0 ∷ c0 ∷ b0 ∷ p0 ∷ p_active 0x3ff0000000000000 (1 ∷ []) ∷ s_passive inf ((2, none, some 0) ∷ []) ∷ []) [] ∷ says (OfProcessor working.Passive) ∷ spent 1 [] 0x3fd2492492492492 3 ∷ [])
-    (c0 ∷ c0 ∷ b_batching 0x3fd2492492492492 (1 ∷ 1 ∷ []) ∷ p_active 0x3fb999999999999a (2 ∷ []) ∷ p_active 0x3ff0000000000000 (1 ∷ []) ∷ s_passive inf ((2, none, some 0) ∷ (1, some 0x3fd2492492492492, some 0x3fd2492492492492) ∷ []) ∷ []) []
+    (ran 1 ((256, 2, 2, 1, 0, 2) ∷ []) 0 1 ∷ holds (c0 ∷ c0 ∷ b0 ∷ p_passive 0 [] ∷ p0 ∷ s0 ∷ []) ((256, 2, 2, 1, 0, 2) ∷ []) ∷ ran 1 [] 0 1 ∷ holds (c0 ∷ c0 ∷ b_batching 0x3fd2492492492492 (2 ∷ []) ∷ p0 ∷ p0 ∷ s_passive inf ((2, None, Some 0) ∷ []) ∷ []) [] ∷ ran 1 [] 0x3fd2492492492492 1 ∷ holds (c0 ∷ c0 ∷ b0 ∷ p0 ∷ p0 ∷ s_passive inf ((2, None, Some 0) ∷ []) ∷ []) [] ∷ reached 1 [] 0x3fd2492492492492 2 ∷ holds (c0 ∷ c0 ∷ b0 ∷ p0 ∷ p_active 0x3ff0000000000000 (1 ∷ []) ∷ s_passive inf ((2, None, Some 0) ∷ []) ∷ []) [] ∷ says (OfProcessor working.Passive) ∷ spent 1 [] 0x3fd2492492492492 3 ∷ [])
+    (c0 ∷ c0 ∷ b_batching 0x3fd2492492492492 (1 ∷ 1 ∷ []) ∷ p_active 0x3fb999999999999a (2 ∷ []) ∷ p_active 0x3ff0000000000000 (1 ∷ []) ∷ s_passive inf ((2, None, Some 0) ∷ (1, Some 0x3fd2492492492492, Some 0x3fd2492492492492) ∷ []) ∷ []) []
 unfolding play
 case-121 = refl
 
@@ -265,8 +264,8 @@ pub case-124 :
     (0x3fd2492492492492 ∷ [])
     (job 5 2 3 ∷ inject 65535 3 5 1 0x3fd2492492492492 3 ∷ status 8 ∷ steps 1 ∷ look ∷ job 1 3 1 ∷ job 1 2 1 ∷ job 8 1 3 ∷ job 6 1 2 ∷ status 8 ∷ step ∷ look ∷ until 0x4010000000000000 1 ∷ [])
     ≡ seen
-    (says (Mean none) ∷ ran 1 [] 0 0 ∷ holds (p0 ∷ s0 ∷ b0 ∷ s_passive inf ((3, none, some 0) ∷ []) ∷ []) [] ∷ says (Mean none) ∷ ran 1 [] 0 1 ∷ holds (p_active 0x3fd2492492492492 (2 ∷ []) ∷ s_passive inf ((3, none, some 0) ∷ []) ∷ b_batching 0x3e112e0be826d695 (1 ∷ 1 ∷ []) ∷ s_passive inf ((3, none, some 0) ∷ []) ∷ []) [] ∷ spent 1 ((1, 2, 5, 2, 0x3e112e0be826d695, 1) ∷ (1, 2, 6, 1, 0x3e112e0be826d695, 1) ∷ (1, 2, 5, 2, 0x3e112e0be826d695, 1) ∷ (1, 2, 6, 1, 0x3e112e0be826d695, 1) ∷ []) 0x3e112e0be826d695 1 ∷ [])
-    (p_active 0x3fd24924913643d3 (2 ∷ []) ∷ s_passive inf ((3, none, some 0) ∷ []) ∷ b0 ∷ s_passive inf ((3, none, some 0) ∷ []) ∷ []) ((1, 2, 5, 2, 0x3e112e0be826d695, 1) ∷ (1, 2, 6, 1, 0x3e112e0be826d695, 1) ∷ (1, 2, 5, 2, 0x3e112e0be826d695, 1) ∷ (1, 2, 6, 1, 0x3e112e0be826d695, 1) ∷ [])
+    (says (Mean None) ∷ ran 1 [] 0 0 ∷ holds (p0 ∷ s0 ∷ b0 ∷ s_passive inf ((3, None, Some 0) ∷ []) ∷ []) [] ∷ says (Mean None) ∷ ran 1 [] 0 1 ∷ holds (p_active 0x3fd2492492492492 (2 ∷ []) ∷ s_passive inf ((3, None, Some 0) ∷ []) ∷ b_batching 0x3e112e0be826d695 (1 ∷ 1 ∷ []) ∷ s_passive inf ((3, None, Some 0) ∷ []) ∷ []) [] ∷ spent 1 ((1, 2, 5, 2, 0x3e112e0be826d695, 1) ∷ (1, 2, 6, 1, 0x3e112e0be826d695, 1) ∷ (1, 2, 5, 2, 0x3e112e0be826d695, 1) ∷ (1, 2, 6, 1, 0x3e112e0be826d695, 1) ∷ []) 0x3e112e0be826d695 1 ∷ [])
+    (p_active 0x3fd24924913643d3 (2 ∷ []) ∷ s_passive inf ((3, None, Some 0) ∷ []) ∷ b0 ∷ s_passive inf ((3, None, Some 0) ∷ []) ∷ []) ((1, 2, 5, 2, 0x3e112e0be826d695, 1) ∷ (1, 2, 6, 1, 0x3e112e0be826d695, 1) ∷ (1, 2, 5, 2, 0x3e112e0be826d695, 1) ∷ (1, 2, 6, 1, 0x3e112e0be826d695, 1) ∷ [])
 unfolding play
 case-124 = refl
 
@@ -276,7 +275,7 @@ pub case-125 :
     (0x4004000000000000 ∷ [])
     (inject 0 0 4 2 0x401c000000000000 3 ∷ step ∷ look ∷ step ∷ look ∷ step ∷ look ∷ job 1 3 1 ∷ step ∷ [])
     ≡ seen
-    (ran 1 [] 0 0 ∷ holds (b_batching 0x3fb999999999999a (3 ∷ []) ∷ c0 ∷ p0 ∷ s0 ∷ b0 ∷ s0 ∷ []) [] ∷ ran 1 ((4, 1, 8, 2, 0x3fb999999999999a, 3) ∷ (4, 1, 1, 1, 0x3fb999999999999a, 3) ∷ (4, 1, 3, 3, 0x3fb999999999999a, 3) ∷ (4, 1, 1, 3, 0x3fb999999999999a, 3) ∷ []) 0x3fb999999999999a 0 ∷ holds (b0 ∷ c0 ∷ p0 ∷ s0 ∷ b0 ∷ s0 ∷ []) ((4, 1, 8, 2, 0x3fb999999999999a, 3) ∷ (4, 1, 1, 1, 0x3fb999999999999a, 3) ∷ (4, 1, 3, 3, 0x3fb999999999999a, 3) ∷ (4, 1, 1, 3, 0x3fb999999999999a, 3) ∷ []) ∷ ran 1 ((8, 1, 3, 3, 0x3fb999999999999a, 3) ∷ []) 0x3fb999999999999a 0 ∷ holds (b0 ∷ c0 ∷ p0 ∷ s_passive inf ((3, some 0x3fb999999999999a, none) ∷ []) ∷ b0 ∷ s_passive inf ((3, some 0x3fb999999999999a, some 0x3fb999999999999a) ∷ []) ∷ []) ((8, 1, 3, 3, 0x3fb999999999999a, 3) ∷ []) ∷ ran 1 [] 0x3fb999999999999a 0 ∷ [])
-    (b0 ∷ c0 ∷ p0 ∷ s_passive inf ((3, some 0x3fb999999999999a, none) ∷ []) ∷ b0 ∷ s_passive inf ((3, some 0x3fb999999999999a, some 0x3fb999999999999a) ∷ (1, some 0x3fb999999999999a, none) ∷ []) ∷ []) []
+    (ran 1 [] 0 0 ∷ holds (b_batching 0x3fb999999999999a (3 ∷ []) ∷ c0 ∷ p0 ∷ s0 ∷ b0 ∷ s0 ∷ []) [] ∷ ran 1 ((4, 1, 8, 2, 0x3fb999999999999a, 3) ∷ (4, 1, 1, 1, 0x3fb999999999999a, 3) ∷ (4, 1, 3, 3, 0x3fb999999999999a, 3) ∷ (4, 1, 1, 3, 0x3fb999999999999a, 3) ∷ []) 0x3fb999999999999a 0 ∷ holds (b0 ∷ c0 ∷ p0 ∷ s0 ∷ b0 ∷ s0 ∷ []) ((4, 1, 8, 2, 0x3fb999999999999a, 3) ∷ (4, 1, 1, 1, 0x3fb999999999999a, 3) ∷ (4, 1, 3, 3, 0x3fb999999999999a, 3) ∷ (4, 1, 1, 3, 0x3fb999999999999a, 3) ∷ []) ∷ ran 1 ((8, 1, 3, 3, 0x3fb999999999999a, 3) ∷ []) 0x3fb999999999999a 0 ∷ holds (b0 ∷ c0 ∷ p0 ∷ s_passive inf ((3, Some 0x3fb999999999999a, None) ∷ []) ∷ b0 ∷ s_passive inf ((3, Some 0x3fb999999999999a, Some 0x3fb999999999999a) ∷ []) ∷ []) ((8, 1, 3, 3, 0x3fb999999999999a, 3) ∷ []) ∷ ran 1 [] 0x3fb999999999999a 0 ∷ [])
+    (b0 ∷ c0 ∷ p0 ∷ s_passive inf ((3, Some 0x3fb999999999999a, None) ∷ []) ∷ b0 ∷ s_passive inf ((3, Some 0x3fb999999999999a, Some 0x3fb999999999999a) ∷ (1, Some 0x3fb999999999999a, None) ∷ []) ∷ []) []
 unfolding play
 case-125 = refl

@@ -1,6 +1,5 @@
 -- Answers of the oracle, computed over the rules: cases 151 to 175. The number above a case is its script's (--show). Written by oracle/write_cases.py. Assumes nothing.
-use Rattle.std.specs.Prelude.{ℕ, ◌≡◌, refl, List, [], ◌∷◌}
-use Rattle.std.proofs.Math.Option.{Option, none, some}
+use Rattle.std.specs.Prelude.{ℕ, ◌≡◌, refl, List, [], ◌∷◌, Option, None, Some}
 use Rattle.rules.specs.declared.ProcessorPhase.TheVariants as working
 use Rattle.rules.specs.declared.BatcherPhase.TheVariants as batching
 use Rattle.rules.specs.Calls.{OfProcessor, OfBatcher, Mean, ParkedCount}
@@ -89,8 +88,8 @@ pub case-158 :
     (0x3ff0000000000000 ∷ 0x3ff0000000000000 ∷ [])
     (job 7 1 1 ∷ job 4 1 3 ∷ job 6 4 3 ∷ step ∷ look ∷ until 0x3fb999999999999a 2 ∷ look ∷ steps 1 ∷ look ∷ steps 4 ∷ [])
     ≡ seen
-    (ran 1 [] 0 1 ∷ holds (b_batching 0x401c000000000000 (1 ∷ []) ∷ b_batching 0x4028b0a3d70a3d71 (3 ∷ []) ∷ p0 ∷ p_active 0x3ff0000000000000 (3 ∷ []) ∷ s0 ∷ p0 ∷ p0 ∷ []) [] ∷ reached 1 [] 0x3ff0000000000000 1 ∷ holds (b_batching 0x4018000000000000 (1 ∷ []) ∷ b_batching 0x4026b0a3d70a3d71 (3 ∷ []) ∷ p0 ∷ p_passive 0 [] ∷ s0 ∷ p0 ∷ p0 ∷ []) ((4, 1, 5, 4, 0x3ff0000000000000, 3) ∷ (4, 1, 5, 2, 0x3ff0000000000000, 3) ∷ []) ∷ ran 1 [] 0x3ff0000000000000 1 ∷ holds (b_batching 0x4018000000000000 (1 ∷ []) ∷ b_batching 0x4026b0a3d70a3d71 (3 ∷ []) ∷ p0 ∷ p0 ∷ s_passive inf ((3, some 0x3ff0000000000000, none) ∷ []) ∷ p0 ∷ p0 ∷ []) [] ∷ stopped 6 2 ((6, 2, 5, 2, 0x4028b0a3d70a3d71, 3) ∷ (6, 2, 8, 1, 0x4028b0a3d70a3d71, 3) ∷ []) 0x4028b0a3d70a3d71 1 ∷ [])
-    (b0 ∷ b0 ∷ p0 ∷ p0 ∷ s_passive inf ((3, some 0x3ff0000000000000, none) ∷ []) ∷ p0 ∷ p0 ∷ []) ((6, 2, 5, 2, 0x4028b0a3d70a3d71, 3) ∷ (6, 2, 8, 1, 0x4028b0a3d70a3d71, 3) ∷ [])
+    (ran 1 [] 0 1 ∷ holds (b_batching 0x401c000000000000 (1 ∷ []) ∷ b_batching 0x4028b0a3d70a3d71 (3 ∷ []) ∷ p0 ∷ p_active 0x3ff0000000000000 (3 ∷ []) ∷ s0 ∷ p0 ∷ p0 ∷ []) [] ∷ reached 1 [] 0x3ff0000000000000 1 ∷ holds (b_batching 0x4018000000000000 (1 ∷ []) ∷ b_batching 0x4026b0a3d70a3d71 (3 ∷ []) ∷ p0 ∷ p_passive 0 [] ∷ s0 ∷ p0 ∷ p0 ∷ []) ((4, 1, 5, 4, 0x3ff0000000000000, 3) ∷ (4, 1, 5, 2, 0x3ff0000000000000, 3) ∷ []) ∷ ran 1 [] 0x3ff0000000000000 1 ∷ holds (b_batching 0x4018000000000000 (1 ∷ []) ∷ b_batching 0x4026b0a3d70a3d71 (3 ∷ []) ∷ p0 ∷ p0 ∷ s_passive inf ((3, Some 0x3ff0000000000000, None) ∷ []) ∷ p0 ∷ p0 ∷ []) [] ∷ stopped 6 2 ((6, 2, 5, 2, 0x4028b0a3d70a3d71, 3) ∷ (6, 2, 8, 1, 0x4028b0a3d70a3d71, 3) ∷ []) 0x4028b0a3d70a3d71 1 ∷ [])
+    (b0 ∷ b0 ∷ p0 ∷ p0 ∷ s_passive inf ((3, Some 0x3ff0000000000000, None) ∷ []) ∷ p0 ∷ p0 ∷ []) ((6, 2, 5, 2, 0x4028b0a3d70a3d71, 3) ∷ (6, 2, 8, 1, 0x4028b0a3d70a3d71, 3) ∷ [])
 unfolding play
 case-158 = refl
 
@@ -133,8 +132,8 @@ pub case-162 :
     []
     (job 3 3 2 ∷ step ∷ look ∷ steps 1 ∷ look ∷ job 4 2 2 ∷ steps 1 ∷ [])
     ≡ seen
-    (ran 1 ((3, 2, 7, 2, 0, 2) ∷ (3, 2, 4, 4, 0, 2) ∷ (3, 2, 4, 4, 0, 2) ∷ []) 0 0 ∷ holds (b0 ∷ s0 ∷ b0 ∷ s0 ∷ []) ((3, 2, 7, 2, 0, 2) ∷ (3, 2, 4, 4, 0, 2) ∷ (3, 2, 4, 4, 0, 2) ∷ []) ∷ ran 1 [] 0 0 ∷ holds (b0 ∷ s_passive inf ((2, some 0, none) ∷ []) ∷ b0 ∷ s_passive inf ((2, none, some 0) ∷ []) ∷ []) [] ∷ ran 1 [] 0 0 ∷ [])
-    (b0 ∷ s_passive inf ((2, some 0, some 0) ∷ []) ∷ b0 ∷ s_passive inf ((2, none, some 0) ∷ []) ∷ []) []
+    (ran 1 ((3, 2, 7, 2, 0, 2) ∷ (3, 2, 4, 4, 0, 2) ∷ (3, 2, 4, 4, 0, 2) ∷ []) 0 0 ∷ holds (b0 ∷ s0 ∷ b0 ∷ s0 ∷ []) ((3, 2, 7, 2, 0, 2) ∷ (3, 2, 4, 4, 0, 2) ∷ (3, 2, 4, 4, 0, 2) ∷ []) ∷ ran 1 [] 0 0 ∷ holds (b0 ∷ s_passive inf ((2, Some 0, None) ∷ []) ∷ b0 ∷ s_passive inf ((2, None, Some 0) ∷ []) ∷ []) [] ∷ ran 1 [] 0 0 ∷ [])
+    (b0 ∷ s_passive inf ((2, Some 0, Some 0) ∷ []) ∷ b0 ∷ s_passive inf ((2, None, Some 0) ∷ []) ∷ []) []
 unfolding play
 case-162 = refl
 
@@ -177,8 +176,8 @@ pub case-166 :
     (0x4010000000000000 ∷ 0x4004000000000000 ∷ 0x3fe6666666666666 ∷ 0x4004000000000000 ∷ [])
     (job 4 1 2 ∷ job 5 1 1 ∷ job 4 1 2 ∷ inject 0 0 5 1 0x3fb999999999999a 3 ∷ job 6 1 1 ∷ inject 0 0 2 1 0x3e112e0be826d695 1 ∷ job 2 3 1 ∷ job 6 1 1 ∷ job 5 1 1 ∷ step ∷ look ∷ until 0x3fb999999999999a 2 ∷ look ∷ step ∷ look ∷ step ∷ look ∷ steps 1 ∷ look ∷ step ∷ look ∷ steps 3 ∷ [])
     ≡ seen
-    (ran 1 [] 0 3 ∷ holds (p_active 0x4010000000000000 (2 ∷ 2 ∷ []) ∷ p_active 0x4004000000000000 (1 ∷ []) ∷ s_passive inf ((1, some 0, some 0) ∷ []) ∷ p_active 0x3fe6666666666666 (1 ∷ []) ∷ []) [] ∷ reached 1 [] 0x3fe6666666666666 3 ∷ holds (p_active 0x400a666666666666 (2 ∷ 2 ∷ []) ∷ p_active 0x3ffccccccccccccd (1 ∷ []) ∷ s_passive inf ((1, some 0, some 0) ∷ []) ∷ p_passive 0 [] ∷ []) ((5, 1, 2, 3, 0x3fe6666666666666, 1) ∷ (5, 1, 2, 1, 0x3fe6666666666666, 1) ∷ (5, 1, 4, 1, 0x3fe6666666666666, 1) ∷ (5, 1, 2, 1, 0x3fe6666666666666, 1) ∷ (5, 1, 4, 1, 0x3fe6666666666666, 1) ∷ []) ∷ ran 1 [] 0x3fe6666666666666 3 ∷ holds (p_active 0x400a666666666666 (2 ∷ 2 ∷ 1 ∷ 1 ∷ []) ∷ p_active 0x3ffccccccccccccd (1 ∷ []) ∷ s_passive inf ((1, some 0x3fe6666666666666, some 0x3fe6666666666666) ∷ []) ∷ p0 ∷ []) [] ∷ ran 1 ((6, 2, 2, 1, 0x4004000000000000, 1) ∷ (6, 2, 2, 2, 0x4004000000000000, 1) ∷ []) 0x4004000000000000 3 ∷ holds (p_active 0x3ff7ffffffffffff (2 ∷ 2 ∷ 1 ∷ 1 ∷ []) ∷ p_passive 0 [] ∷ s_passive inf ((1, some 0x3fe6666666666666, some 0x3fe6666666666666) ∷ []) ∷ p0 ∷ []) ((6, 2, 2, 1, 0x4004000000000000, 1) ∷ (6, 2, 2, 2, 0x4004000000000000, 1) ∷ []) ∷ ran 1 ((2, 1, 4, 1, 0x4004000000000000, 1) ∷ (2, 1, 4, 1, 0x4004000000000000, 1) ∷ []) 0x4004000000000000 3 ∷ holds (p_active 0x3ff7ffffffffffff (2 ∷ 2 ∷ 1 ∷ 1 ∷ []) ∷ p0 ∷ s_passive inf ((1, some 0x4004000000000000, some 0x3fe6666666666666) ∷ []) ∷ p0 ∷ []) ((2, 1, 4, 1, 0x4004000000000000, 1) ∷ (2, 1, 4, 1, 0x4004000000000000, 1) ∷ []) ∷ ran 1 [] 0x4004000000000000 3 ∷ holds (p_active 0x3ff7ffffffffffff (2 ∷ 2 ∷ 1 ∷ 1 ∷ 1 ∷ 1 ∷ []) ∷ p0 ∷ s_passive inf ((1, some 0x4004000000000000, some 0x3fe6666666666666) ∷ []) ∷ p0 ∷ []) [] ∷ ran 3 [] 0x401a000000000000 4 ∷ [])
-    (p_passive 0 (1 ∷ 1 ∷ 1 ∷ 1 ∷ []) ∷ p0 ∷ s_passive inf ((1, some 0x4004000000000000, some 0x3fe6666666666666) ∷ []) ∷ p0 ∷ []) []
+    (ran 1 [] 0 3 ∷ holds (p_active 0x4010000000000000 (2 ∷ 2 ∷ []) ∷ p_active 0x4004000000000000 (1 ∷ []) ∷ s_passive inf ((1, Some 0, Some 0) ∷ []) ∷ p_active 0x3fe6666666666666 (1 ∷ []) ∷ []) [] ∷ reached 1 [] 0x3fe6666666666666 3 ∷ holds (p_active 0x400a666666666666 (2 ∷ 2 ∷ []) ∷ p_active 0x3ffccccccccccccd (1 ∷ []) ∷ s_passive inf ((1, Some 0, Some 0) ∷ []) ∷ p_passive 0 [] ∷ []) ((5, 1, 2, 3, 0x3fe6666666666666, 1) ∷ (5, 1, 2, 1, 0x3fe6666666666666, 1) ∷ (5, 1, 4, 1, 0x3fe6666666666666, 1) ∷ (5, 1, 2, 1, 0x3fe6666666666666, 1) ∷ (5, 1, 4, 1, 0x3fe6666666666666, 1) ∷ []) ∷ ran 1 [] 0x3fe6666666666666 3 ∷ holds (p_active 0x400a666666666666 (2 ∷ 2 ∷ 1 ∷ 1 ∷ []) ∷ p_active 0x3ffccccccccccccd (1 ∷ []) ∷ s_passive inf ((1, Some 0x3fe6666666666666, Some 0x3fe6666666666666) ∷ []) ∷ p0 ∷ []) [] ∷ ran 1 ((6, 2, 2, 1, 0x4004000000000000, 1) ∷ (6, 2, 2, 2, 0x4004000000000000, 1) ∷ []) 0x4004000000000000 3 ∷ holds (p_active 0x3ff7ffffffffffff (2 ∷ 2 ∷ 1 ∷ 1 ∷ []) ∷ p_passive 0 [] ∷ s_passive inf ((1, Some 0x3fe6666666666666, Some 0x3fe6666666666666) ∷ []) ∷ p0 ∷ []) ((6, 2, 2, 1, 0x4004000000000000, 1) ∷ (6, 2, 2, 2, 0x4004000000000000, 1) ∷ []) ∷ ran 1 ((2, 1, 4, 1, 0x4004000000000000, 1) ∷ (2, 1, 4, 1, 0x4004000000000000, 1) ∷ []) 0x4004000000000000 3 ∷ holds (p_active 0x3ff7ffffffffffff (2 ∷ 2 ∷ 1 ∷ 1 ∷ []) ∷ p0 ∷ s_passive inf ((1, Some 0x4004000000000000, Some 0x3fe6666666666666) ∷ []) ∷ p0 ∷ []) ((2, 1, 4, 1, 0x4004000000000000, 1) ∷ (2, 1, 4, 1, 0x4004000000000000, 1) ∷ []) ∷ ran 1 [] 0x4004000000000000 3 ∷ holds (p_active 0x3ff7ffffffffffff (2 ∷ 2 ∷ 1 ∷ 1 ∷ 1 ∷ 1 ∷ []) ∷ p0 ∷ s_passive inf ((1, Some 0x4004000000000000, Some 0x3fe6666666666666) ∷ []) ∷ p0 ∷ []) [] ∷ ran 3 [] 0x401a000000000000 4 ∷ [])
+    (p_passive 0 (1 ∷ 1 ∷ 1 ∷ 1 ∷ []) ∷ p0 ∷ s_passive inf ((1, Some 0x4004000000000000, Some 0x3fe6666666666666) ∷ []) ∷ p0 ∷ []) []
 unfolding play
 case-166 = refl
 
@@ -210,8 +209,8 @@ pub case-169 :
     (0x4004000000000000 ∷ 0x3ff0000000000000 ∷ 0x4028b0a3d70a3d71 ∷ [])
     (inject 0 0 9 1 0x3fe6666666666666 3 ∷ step ∷ look ∷ step ∷ look ∷ step ∷ look ∷ job 5 1 2 ∷ job 5 1 1 ∷ job 5 1 1 ∷ job 5 1 3 ∷ inject 65535 3 9 1 0x3fd2492492492492 2 ∷ inject 65535 3 9 1 0 2 ∷ step ∷ look ∷ step ∷ look ∷ steps 3 ∷ [])
     ≡ seen
-    (ran 1 [] 0 1 ∷ holds (p0 ∷ p_active 0x4004000000000000 (3 ∷ []) ∷ s0 ∷ []) [] ∷ ran 1 ((9, 2, 2, 4, 0x4004000000000000, 3) ∷ []) 0x4004000000000000 1 ∷ holds (p0 ∷ p_passive 0 [] ∷ s0 ∷ []) ((9, 2, 2, 4, 0x4004000000000000, 3) ∷ []) ∷ ran 1 [] 0x4004000000000000 1 ∷ holds (p0 ∷ p0 ∷ s_passive inf ((3, some 0x4004000000000000, none) ∷ []) ∷ []) [] ∷ ran 1 [] 0x4004000000000000 3 ∷ holds (p_active 0x3ff0000000000000 (2 ∷ 1 ∷ 1 ∷ 3 ∷ []) ∷ p_active 0x4028b0a3d70a3d71 (2 ∷ 2 ∷ []) ∷ s_passive inf ((3, some 0x4004000000000000, none) ∷ []) ∷ []) [] ∷ ran 1 ((5, 2, 2, 9, 0x400c000000000000, 2) ∷ (5, 2, 2, 3, 0x400c000000000000, 2) ∷ (5, 2, 2, 4, 0x400c000000000000, 2) ∷ (5, 2, 2, 1, 0x400c000000000000, 2) ∷ (5, 2, 2, 1, 0x400c000000000000, 2) ∷ []) 0x400c000000000000 3 ∷ holds (p_passive 0 (1 ∷ 1 ∷ 3 ∷ []) ∷ p_active 0x4026b0a3d70a3d71 (2 ∷ 2 ∷ []) ∷ s_passive inf ((3, some 0x4004000000000000, none) ∷ []) ∷ []) ((5, 2, 2, 9, 0x400c000000000000, 2) ∷ (5, 2, 2, 3, 0x400c000000000000, 2) ∷ (5, 2, 2, 4, 0x400c000000000000, 2) ∷ (5, 2, 2, 1, 0x400c000000000000, 2) ∷ (5, 2, 2, 1, 0x400c000000000000, 2) ∷ []) ∷ stopped 5 0 [] 0x400c000000000000 3 ∷ [])
-    (p_passive 0 (1 ∷ 1 ∷ 3 ∷ []) ∷ p_active 0x4026b0a3d70a3d71 (2 ∷ 2 ∷ []) ∷ s_passive inf ((3, some 0x4004000000000000, none) ∷ []) ∷ []) ((5, 2, 2, 9, 0x400c000000000000, 2) ∷ (5, 2, 2, 3, 0x400c000000000000, 2) ∷ (5, 2, 2, 4, 0x400c000000000000, 2) ∷ (5, 2, 2, 1, 0x400c000000000000, 2) ∷ (5, 2, 2, 1, 0x400c000000000000, 2) ∷ [])
+    (ran 1 [] 0 1 ∷ holds (p0 ∷ p_active 0x4004000000000000 (3 ∷ []) ∷ s0 ∷ []) [] ∷ ran 1 ((9, 2, 2, 4, 0x4004000000000000, 3) ∷ []) 0x4004000000000000 1 ∷ holds (p0 ∷ p_passive 0 [] ∷ s0 ∷ []) ((9, 2, 2, 4, 0x4004000000000000, 3) ∷ []) ∷ ran 1 [] 0x4004000000000000 1 ∷ holds (p0 ∷ p0 ∷ s_passive inf ((3, Some 0x4004000000000000, None) ∷ []) ∷ []) [] ∷ ran 1 [] 0x4004000000000000 3 ∷ holds (p_active 0x3ff0000000000000 (2 ∷ 1 ∷ 1 ∷ 3 ∷ []) ∷ p_active 0x4028b0a3d70a3d71 (2 ∷ 2 ∷ []) ∷ s_passive inf ((3, Some 0x4004000000000000, None) ∷ []) ∷ []) [] ∷ ran 1 ((5, 2, 2, 9, 0x400c000000000000, 2) ∷ (5, 2, 2, 3, 0x400c000000000000, 2) ∷ (5, 2, 2, 4, 0x400c000000000000, 2) ∷ (5, 2, 2, 1, 0x400c000000000000, 2) ∷ (5, 2, 2, 1, 0x400c000000000000, 2) ∷ []) 0x400c000000000000 3 ∷ holds (p_passive 0 (1 ∷ 1 ∷ 3 ∷ []) ∷ p_active 0x4026b0a3d70a3d71 (2 ∷ 2 ∷ []) ∷ s_passive inf ((3, Some 0x4004000000000000, None) ∷ []) ∷ []) ((5, 2, 2, 9, 0x400c000000000000, 2) ∷ (5, 2, 2, 3, 0x400c000000000000, 2) ∷ (5, 2, 2, 4, 0x400c000000000000, 2) ∷ (5, 2, 2, 1, 0x400c000000000000, 2) ∷ (5, 2, 2, 1, 0x400c000000000000, 2) ∷ []) ∷ stopped 5 0 [] 0x400c000000000000 3 ∷ [])
+    (p_passive 0 (1 ∷ 1 ∷ 3 ∷ []) ∷ p_active 0x4026b0a3d70a3d71 (2 ∷ 2 ∷ []) ∷ s_passive inf ((3, Some 0x4004000000000000, None) ∷ []) ∷ []) ((5, 2, 2, 9, 0x400c000000000000, 2) ∷ (5, 2, 2, 3, 0x400c000000000000, 2) ∷ (5, 2, 2, 4, 0x400c000000000000, 2) ∷ (5, 2, 2, 1, 0x400c000000000000, 2) ∷ (5, 2, 2, 1, 0x400c000000000000, 2) ∷ [])
 unfolding play
 case-169 = refl
 
@@ -243,8 +242,8 @@ pub case-172 :
     (0x3fb999999999999a ∷ 0x401c000000000000 ∷ 0x4010000000000000 ∷ [])
     (job 5 2 2147483648 ∷ inject 65535 3 8 1 0 0 ∷ inject 0 0 5 1 0x3fe6666666666666 0 ∷ job 5 4 0 ∷ job 97 3 7 ∷ job 6 1 7 ∷ job 1 1 7 ∷ steps 0 ∷ look ∷ step ∷ look ∷ until 0x3fb999999999999a 502 ∷ look ∷ until 0x3fc999999999999a 3 ∷ [])
     ≡ seen
-    (ran 0 [] 0 0 ∷ holds (p0 ∷ b0 ∷ b0 ∷ c0 ∷ p0 ∷ s0 ∷ b0 ∷ []) ((0, 0, 5, 2, 0, 2147483648) ∷ (65535, 3, 8, 1, 0, 0) ∷ (0, 0, 5, 1, 0x3fe6666666666666, 0) ∷ (0, 0, 5, 4, 0, 0) ∷ (0, 0, 97, 3, 0, 7) ∷ (0, 0, 6, 1, 0, 7) ∷ (0, 0, 1, 1, 0, 7) ∷ []) ∷ ran 1 ((6, 1, 2, 4, 0, 7) ∷ (6, 1, 2, 2, 0, 7) ∷ []) 0 2 ∷ holds (p_active 0x3fb999999999999a (0 ∷ []) ∷ b0 ∷ b0 ∷ c0 ∷ p_active 0x401c000000000000 (7 ∷ []) ∷ s_passive inf ((7, some 0, none) ∷ []) ∷ b_batching 0x401c000000000000 (0 ∷ []) ∷ []) ((6, 1, 2, 4, 0, 7) ∷ (6, 1, 2, 2, 0, 7) ∷ []) ∷ reached 2 [] 0x3fb999999999999a 2 ∷ holds (p_passive 0 [] ∷ b0 ∷ b_batching 0x3feccccccccccccd (7 ∷ 7 ∷ []) ∷ c0 ∷ p_active 0x401b99999999999a (7 ∷ []) ∷ s_passive inf ((7, some 0, none) ∷ []) ∷ b_batching 0x401b99999999999a (0 ∷ []) ∷ []) [] ∷ reached 2 [] 0x3ff0000000000000 2 ∷ [])
-    (p0 ∷ b0 ∷ b0 ∷ c0 ∷ p_active 0x4018000000000000 (7 ∷ []) ∷ s_passive inf ((7, some 0, none) ∷ []) ∷ b_batching 0x4018000000000000 (0 ∷ []) ∷ []) ((2, 2, 6, 2, 0x3ff0000000000000, 7) ∷ (2, 2, 6, 2, 0x3ff0000000000000, 7) ∷ [])
+    (ran 0 [] 0 0 ∷ holds (p0 ∷ b0 ∷ b0 ∷ c0 ∷ p0 ∷ s0 ∷ b0 ∷ []) ((0, 0, 5, 2, 0, 2147483648) ∷ (65535, 3, 8, 1, 0, 0) ∷ (0, 0, 5, 1, 0x3fe6666666666666, 0) ∷ (0, 0, 5, 4, 0, 0) ∷ (0, 0, 97, 3, 0, 7) ∷ (0, 0, 6, 1, 0, 7) ∷ (0, 0, 1, 1, 0, 7) ∷ []) ∷ ran 1 ((6, 1, 2, 4, 0, 7) ∷ (6, 1, 2, 2, 0, 7) ∷ []) 0 2 ∷ holds (p_active 0x3fb999999999999a (0 ∷ []) ∷ b0 ∷ b0 ∷ c0 ∷ p_active 0x401c000000000000 (7 ∷ []) ∷ s_passive inf ((7, Some 0, None) ∷ []) ∷ b_batching 0x401c000000000000 (0 ∷ []) ∷ []) ((6, 1, 2, 4, 0, 7) ∷ (6, 1, 2, 2, 0, 7) ∷ []) ∷ reached 2 [] 0x3fb999999999999a 2 ∷ holds (p_passive 0 [] ∷ b0 ∷ b_batching 0x3feccccccccccccd (7 ∷ 7 ∷ []) ∷ c0 ∷ p_active 0x401b99999999999a (7 ∷ []) ∷ s_passive inf ((7, Some 0, None) ∷ []) ∷ b_batching 0x401b99999999999a (0 ∷ []) ∷ []) [] ∷ reached 2 [] 0x3ff0000000000000 2 ∷ [])
+    (p0 ∷ b0 ∷ b0 ∷ c0 ∷ p_active 0x4018000000000000 (7 ∷ []) ∷ s_passive inf ((7, Some 0, None) ∷ []) ∷ b_batching 0x4018000000000000 (0 ∷ []) ∷ []) ((2, 2, 6, 2, 0x3ff0000000000000, 7) ∷ (2, 2, 6, 2, 0x3ff0000000000000, 7) ∷ [])
 unfolding play
 case-172 = refl
 
@@ -265,8 +264,8 @@ pub case-174 :
     (0x4010000000000000 ∷ 0x0000000000000001 ∷ [])
     (job 9 4 1 ∷ job 4 1 1 ∷ job 4 1 1 ∷ until 0x3ff0000000000000 502 ∷ look ∷ inject 0 0 9 1 0x3fe6666666666666 1 ∷ job 9 1 1 ∷ until 0x4010666666666666 1 ∷ [])
     ≡ seen
-    (reached 2 [] 0x4010000000000000 1 ∷ holds (c0 ∷ s0 ∷ p_passive 0 [] ∷ s_passive inf ((1, none, some 0) ∷ []) ∷ b0 ∷ []) ((4, 1, 2, 1, 0x4010000000000000, 1) ∷ (4, 1, 2, 2, 0x4010000000000000, 1) ∷ (4, 1, 4, 1, 0x4010000000000000, 1) ∷ []) ∷ spent 1 ((2, 1, 9, 2, 0x4010000000000000, 1) ∷ []) 0x4010000000000000 2 ∷ [])
-    (parks ((5, 1, 1) ∷ (5, 3, 1) ∷ []) ∷ s_passive inf ((1, some 0x4010000000000000, some 0x4010000000000000) ∷ []) ∷ p_active 0x0000000000000001 (1 ∷ []) ∷ s_passive inf ((1, some 0x4010000000000000, some 0) ∷ []) ∷ b0 ∷ []) ((2, 1, 9, 2, 0x4010000000000000, 1) ∷ [])
+    (reached 2 [] 0x4010000000000000 1 ∷ holds (c0 ∷ s0 ∷ p_passive 0 [] ∷ s_passive inf ((1, None, Some 0) ∷ []) ∷ b0 ∷ []) ((4, 1, 2, 1, 0x4010000000000000, 1) ∷ (4, 1, 2, 2, 0x4010000000000000, 1) ∷ (4, 1, 4, 1, 0x4010000000000000, 1) ∷ []) ∷ spent 1 ((2, 1, 9, 2, 0x4010000000000000, 1) ∷ []) 0x4010000000000000 2 ∷ [])
+    (parks ((5, 1, 1) ∷ (5, 3, 1) ∷ []) ∷ s_passive inf ((1, Some 0x4010000000000000, Some 0x4010000000000000) ∷ []) ∷ p_active 0x0000000000000001 (1 ∷ []) ∷ s_passive inf ((1, Some 0x4010000000000000, Some 0) ∷ []) ∷ b0 ∷ []) ((2, 1, 9, 2, 0x4010000000000000, 1) ∷ [])
 unfolding play
 case-174 = refl
 

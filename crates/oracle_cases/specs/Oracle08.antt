@@ -1,6 +1,5 @@
 -- Answers of the oracle, computed over the rules: cases 176 to 200. The number above a case is its script's (--show). Written by oracle/write_cases.py. Assumes nothing.
-use Rattle.std.specs.Prelude.{ℕ, ◌≡◌, refl, List, [], ◌∷◌}
-use Rattle.std.proofs.Math.Option.{Option, none, some}
+use Rattle.std.specs.Prelude.{ℕ, ◌≡◌, refl, List, [], ◌∷◌, Option, None, Some}
 use Rattle.rules.specs.declared.ProcessorPhase.TheVariants as working
 use Rattle.rules.specs.declared.BatcherPhase.TheVariants as batching
 use Rattle.rules.specs.Calls.{OfProcessor, OfBatcher, Mean, ParkedCount}
@@ -12,8 +11,8 @@ pub case-176 :
     (0x4010000000000000 ∷ [])
     (inject 65535 3 6 4 0 3 ∷ job 7 3 1 ∷ job 6 4 3 ∷ step ∷ look ∷ step ∷ look ∷ until 0x3ff199999999999a 1 ∷ look ∷ inject 0 0 6 3 0x3fd5555555555555 1 ∷ step ∷ look ∷ inject 0 0 6 3 0x3ff0000000000000 3 ∷ job 6 1 3 ∷ job 6 3 1 ∷ reset-global-time ∷ step ∷ look ∷ step ∷ look ∷ until 0 1 ∷ look ∷ until 0x3fb999999999999a 3 ∷ [])
     ≡ seen
-    (ran 1 [] 0 0 ∷ holds (b_batching 0x3fb999999999999a (1 ∷ []) ∷ p0 ∷ s_passive inf ((3, some 0, none) ∷ []) ∷ p0 ∷ []) [] ∷ ran 1 ((7, 1, 6, 4, 0x3fb999999999999a, 1) ∷ []) 0x3fb999999999999a 0 ∷ holds (b0 ∷ p0 ∷ s_passive inf ((3, some 0, none) ∷ []) ∷ p0 ∷ []) ((7, 1, 6, 4, 0x3fb999999999999a, 1) ∷ []) ∷ spent 1 [] 0x3fb999999999999a 0 ∷ holds (b0 ∷ p0 ∷ s_passive inf ((3, some 0, none) ∷ (1, some 0x3fb999999999999a, none) ∷ []) ∷ p0 ∷ []) [] ∷ ran 1 [] 0x3fb999999999999a 0 ∷ holds (b0 ∷ p0 ∷ s_passive inf ((3, some 0, none) ∷ (1, some 0x3fb999999999999a, some 0x3fb999999999999a) ∷ []) ∷ p0 ∷ []) [] ∷ ran 1 ((6, 1, 6, 1, 0, 3) ∷ (6, 1, 99, 3, 0, 3) ∷ (6, 1, 6, 4, 0, 3) ∷ (6, 1, 4, 1, 0, 3) ∷ (6, 1, 6, 3, 0, 3) ∷ []) 0 0 ∷ holds (b0 ∷ p0 ∷ s_passive inf ((3, some 0, some 0) ∷ (1, some 0x3fb999999999999a, some 0) ∷ []) ∷ p0 ∷ []) ((6, 1, 6, 1, 0, 3) ∷ (6, 1, 99, 3, 0, 3) ∷ (6, 1, 6, 4, 0, 3) ∷ (6, 1, 4, 1, 0, 3) ∷ (6, 1, 6, 3, 0, 3) ∷ []) ∷ ran 1 ((6, 1, 6, 1, 0, 3) ∷ (6, 1, 99, 3, 0, 3) ∷ (6, 1, 6, 4, 0, 3) ∷ (6, 1, 4, 1, 0, 3) ∷ (6, 1, 6, 3, 0, 3) ∷ []) 0 1 ∷ holds (b0 ∷ p0 ∷ s_passive inf ((3, some 0, some 0) ∷ (1, some 0x3fb999999999999a, some 0) ∷ []) ∷ p_active 0x4010000000000000 (3 ∷ []) ∷ []) ((6, 1, 6, 1, 0, 3) ∷ (6, 1, 99, 3, 0, 3) ∷ (6, 1, 6, 4, 0, 3) ∷ (6, 1, 4, 1, 0, 3) ∷ (6, 1, 6, 3, 0, 3) ∷ []) ∷ reached 1 [] 0 1 ∷ holds (b0 ∷ p0 ∷ s_passive inf ((3, some 0, some 0) ∷ (1, some 0x3fb999999999999a, some 0) ∷ []) ∷ p_active 0x4010000000000000 (3 ∷ []) ∷ []) ((6, 1, 6, 1, 0, 3) ∷ (6, 1, 99, 3, 0, 3) ∷ (6, 1, 6, 4, 0, 3) ∷ (6, 1, 4, 1, 0, 3) ∷ (6, 1, 6, 3, 0, 3) ∷ []) ∷ spent 3 ((6, 1, 6, 1, 0, 3) ∷ (6, 1, 99, 3, 0, 3) ∷ (6, 1, 6, 4, 0, 3) ∷ (6, 1, 4, 1, 0, 3) ∷ (6, 1, 6, 3, 0, 3) ∷ (6, 1, 6, 1, 0, 3) ∷ (6, 1, 99, 3, 0, 3) ∷ (6, 1, 6, 4, 0, 3) ∷ (6, 1, 4, 1, 0, 3) ∷ (6, 1, 6, 3, 0, 3) ∷ (6, 1, 6, 1, 0, 3) ∷ (6, 1, 99, 3, 0, 3) ∷ (6, 1, 6, 4, 0, 3) ∷ (6, 1, 4, 1, 0, 3) ∷ (6, 1, 6, 3, 0, 3) ∷ []) 0 1 ∷ [])
-    (b0 ∷ p0 ∷ s_passive inf ((3, some 0, some 0) ∷ (1, some 0x3fb999999999999a, some 0) ∷ []) ∷ p_active 0x4010000000000000 (3 ∷ []) ∷ []) ((6, 1, 6, 1, 0, 3) ∷ (6, 1, 99, 3, 0, 3) ∷ (6, 1, 6, 4, 0, 3) ∷ (6, 1, 4, 1, 0, 3) ∷ (6, 1, 6, 3, 0, 3) ∷ [])
+    (ran 1 [] 0 0 ∷ holds (b_batching 0x3fb999999999999a (1 ∷ []) ∷ p0 ∷ s_passive inf ((3, Some 0, None) ∷ []) ∷ p0 ∷ []) [] ∷ ran 1 ((7, 1, 6, 4, 0x3fb999999999999a, 1) ∷ []) 0x3fb999999999999a 0 ∷ holds (b0 ∷ p0 ∷ s_passive inf ((3, Some 0, None) ∷ []) ∷ p0 ∷ []) ((7, 1, 6, 4, 0x3fb999999999999a, 1) ∷ []) ∷ spent 1 [] 0x3fb999999999999a 0 ∷ holds (b0 ∷ p0 ∷ s_passive inf ((3, Some 0, None) ∷ (1, Some 0x3fb999999999999a, None) ∷ []) ∷ p0 ∷ []) [] ∷ ran 1 [] 0x3fb999999999999a 0 ∷ holds (b0 ∷ p0 ∷ s_passive inf ((3, Some 0, None) ∷ (1, Some 0x3fb999999999999a, Some 0x3fb999999999999a) ∷ []) ∷ p0 ∷ []) [] ∷ ran 1 ((6, 1, 6, 1, 0, 3) ∷ (6, 1, 99, 3, 0, 3) ∷ (6, 1, 6, 4, 0, 3) ∷ (6, 1, 4, 1, 0, 3) ∷ (6, 1, 6, 3, 0, 3) ∷ []) 0 0 ∷ holds (b0 ∷ p0 ∷ s_passive inf ((3, Some 0, Some 0) ∷ (1, Some 0x3fb999999999999a, Some 0) ∷ []) ∷ p0 ∷ []) ((6, 1, 6, 1, 0, 3) ∷ (6, 1, 99, 3, 0, 3) ∷ (6, 1, 6, 4, 0, 3) ∷ (6, 1, 4, 1, 0, 3) ∷ (6, 1, 6, 3, 0, 3) ∷ []) ∷ ran 1 ((6, 1, 6, 1, 0, 3) ∷ (6, 1, 99, 3, 0, 3) ∷ (6, 1, 6, 4, 0, 3) ∷ (6, 1, 4, 1, 0, 3) ∷ (6, 1, 6, 3, 0, 3) ∷ []) 0 1 ∷ holds (b0 ∷ p0 ∷ s_passive inf ((3, Some 0, Some 0) ∷ (1, Some 0x3fb999999999999a, Some 0) ∷ []) ∷ p_active 0x4010000000000000 (3 ∷ []) ∷ []) ((6, 1, 6, 1, 0, 3) ∷ (6, 1, 99, 3, 0, 3) ∷ (6, 1, 6, 4, 0, 3) ∷ (6, 1, 4, 1, 0, 3) ∷ (6, 1, 6, 3, 0, 3) ∷ []) ∷ reached 1 [] 0 1 ∷ holds (b0 ∷ p0 ∷ s_passive inf ((3, Some 0, Some 0) ∷ (1, Some 0x3fb999999999999a, Some 0) ∷ []) ∷ p_active 0x4010000000000000 (3 ∷ []) ∷ []) ((6, 1, 6, 1, 0, 3) ∷ (6, 1, 99, 3, 0, 3) ∷ (6, 1, 6, 4, 0, 3) ∷ (6, 1, 4, 1, 0, 3) ∷ (6, 1, 6, 3, 0, 3) ∷ []) ∷ spent 3 ((6, 1, 6, 1, 0, 3) ∷ (6, 1, 99, 3, 0, 3) ∷ (6, 1, 6, 4, 0, 3) ∷ (6, 1, 4, 1, 0, 3) ∷ (6, 1, 6, 3, 0, 3) ∷ (6, 1, 6, 1, 0, 3) ∷ (6, 1, 99, 3, 0, 3) ∷ (6, 1, 6, 4, 0, 3) ∷ (6, 1, 4, 1, 0, 3) ∷ (6, 1, 6, 3, 0, 3) ∷ (6, 1, 6, 1, 0, 3) ∷ (6, 1, 99, 3, 0, 3) ∷ (6, 1, 6, 4, 0, 3) ∷ (6, 1, 4, 1, 0, 3) ∷ (6, 1, 6, 3, 0, 3) ∷ []) 0 1 ∷ [])
+    (b0 ∷ p0 ∷ s_passive inf ((3, Some 0, Some 0) ∷ (1, Some 0x3fb999999999999a, Some 0) ∷ []) ∷ p_active 0x4010000000000000 (3 ∷ []) ∷ []) ((6, 1, 6, 1, 0, 3) ∷ (6, 1, 99, 3, 0, 3) ∷ (6, 1, 6, 4, 0, 3) ∷ (6, 1, 4, 1, 0, 3) ∷ (6, 1, 6, 3, 0, 3) ∷ [])
 unfolding play
 case-176 = refl
 
@@ -23,8 +22,8 @@ pub case-177 :
     []
     (job 2 3 1 ∷ reset-global-time ∷ step ∷ look ∷ steps 1 ∷ look ∷ job 5 2 1 ∷ job 5 2 1 ∷ until 0x4024000000000000 1 ∷ look ∷ job 5 4 1 ∷ job 5 1 1 ∷ until 0x4004000000000000 2 ∷ [])
     ≡ seen
-    (ran 1 ((2, 1, 5, 4, 0, 1) ∷ (2, 1, 3, 2, 0, 1) ∷ []) 0 0 ∷ holds (s0 ∷ b0 ∷ p0 ∷ b0 ∷ b0 ∷ s0 ∷ p0 ∷ []) ((2, 1, 5, 4, 0, 1) ∷ (2, 1, 3, 2, 0, 1) ∷ []) ∷ ran 1 [] 0 0 ∷ holds (s_passive inf ((1, some 0, none) ∷ []) ∷ b0 ∷ p0 ∷ b0 ∷ b0 ∷ s_passive inf ((1, none, some 0) ∷ []) ∷ p0 ∷ []) [] ∷ spent 1 [] 0 0 ∷ holds (s_passive inf ((1, some 0, none) ∷ []) ∷ b0 ∷ p0 ∷ b0 ∷ b0 ∷ s_passive inf ((1, some 0, some 0) ∷ []) ∷ p0 ∷ []) [] ∷ spent 2 ((5, 2, 4, 4, 0, 1) ∷ []) 0 0 ∷ [])
-    (s_passive inf ((1, some 0, none) ∷ []) ∷ b0 ∷ p0 ∷ b0 ∷ b_batching 0x4004000000000000 (1 ∷ []) ∷ s_passive inf ((1, some 0, some 0) ∷ []) ∷ p0 ∷ []) []
+    (ran 1 ((2, 1, 5, 4, 0, 1) ∷ (2, 1, 3, 2, 0, 1) ∷ []) 0 0 ∷ holds (s0 ∷ b0 ∷ p0 ∷ b0 ∷ b0 ∷ s0 ∷ p0 ∷ []) ((2, 1, 5, 4, 0, 1) ∷ (2, 1, 3, 2, 0, 1) ∷ []) ∷ ran 1 [] 0 0 ∷ holds (s_passive inf ((1, Some 0, None) ∷ []) ∷ b0 ∷ p0 ∷ b0 ∷ b0 ∷ s_passive inf ((1, None, Some 0) ∷ []) ∷ p0 ∷ []) [] ∷ spent 1 [] 0 0 ∷ holds (s_passive inf ((1, Some 0, None) ∷ []) ∷ b0 ∷ p0 ∷ b0 ∷ b0 ∷ s_passive inf ((1, Some 0, Some 0) ∷ []) ∷ p0 ∷ []) [] ∷ spent 2 ((5, 2, 4, 4, 0, 1) ∷ []) 0 0 ∷ [])
+    (s_passive inf ((1, Some 0, None) ∷ []) ∷ b0 ∷ p0 ∷ b0 ∷ b_batching 0x4004000000000000 (1 ∷ []) ∷ s_passive inf ((1, Some 0, Some 0) ∷ []) ∷ p0 ∷ []) []
 unfolding play
 case-177 = refl
 
@@ -78,8 +77,8 @@ pub case-182 :
     (0x4004000000000000 ∷ [])
     (job 5 2 3 ∷ job 5 1 2 ∷ job 5 1 1 ∷ step ∷ look ∷ job 5 4 1 ∷ inject 0 0 5 1 0x3fd2492492492492 2 ∷ step ∷ look ∷ steps 1 ∷ look ∷ job 5 3 3 ∷ job 5 3 3 ∷ job 5 3 1 ∷ step ∷ [])
     ≡ seen
-    (ran 1 [] 0 0 ∷ holds (c0 ∷ c0 ∷ c0 ∷ b0 ∷ s_passive inf ((3, none, some 0) ∷ (2, some 0, none) ∷ (1, some 0, none) ∷ []) ∷ []) [] ∷ ran 1 [] 0 0 ∷ holds (c0 ∷ c0 ∷ c0 ∷ b_batching 0x3fe6666666666666 (2 ∷ []) ∷ s_passive inf ((3, none, some 0) ∷ (2, some 0, none) ∷ (1, some 0, none) ∷ []) ∷ []) [] ∷ ran 1 [] 0x3fe6666666666666 0 ∷ holds (c0 ∷ c0 ∷ c0 ∷ b0 ∷ s_passive inf ((3, none, some 0) ∷ (2, some 0, none) ∷ (1, some 0, none) ∷ []) ∷ []) [] ∷ ran 1 [] 0x3fe6666666666666 0 ∷ [])
-    (c0 ∷ c0 ∷ c0 ∷ b0 ∷ s_passive inf ((3, none, some 0) ∷ (2, some 0, none) ∷ (1, some 0, none) ∷ []) ∷ []) []
+    (ran 1 [] 0 0 ∷ holds (c0 ∷ c0 ∷ c0 ∷ b0 ∷ s_passive inf ((3, None, Some 0) ∷ (2, Some 0, None) ∷ (1, Some 0, None) ∷ []) ∷ []) [] ∷ ran 1 [] 0 0 ∷ holds (c0 ∷ c0 ∷ c0 ∷ b_batching 0x3fe6666666666666 (2 ∷ []) ∷ s_passive inf ((3, None, Some 0) ∷ (2, Some 0, None) ∷ (1, Some 0, None) ∷ []) ∷ []) [] ∷ ran 1 [] 0x3fe6666666666666 0 ∷ holds (c0 ∷ c0 ∷ c0 ∷ b0 ∷ s_passive inf ((3, None, Some 0) ∷ (2, Some 0, None) ∷ (1, Some 0, None) ∷ []) ∷ []) [] ∷ ran 1 [] 0x3fe6666666666666 0 ∷ [])
+    (c0 ∷ c0 ∷ c0 ∷ b0 ∷ s_passive inf ((3, None, Some 0) ∷ (2, Some 0, None) ∷ (1, Some 0, None) ∷ []) ∷ []) []
 unfolding play
 case-182 = refl
 
@@ -100,8 +99,8 @@ pub case-184 :
     (0x4010000000000000 ∷ [])
     (job 2 2 1 ∷ inject 65535 3 2 2 0 2 ∷ inject 0 0 2 3 0x4010000000000000 3 ∷ inject 0 0 2 1 0x3fd5555555555555 3 ∷ job 2 1 2 ∷ steps 2 ∷ look ∷ steps 3 ∷ look ∷ reset-global-time ∷ step ∷ [])
     ≡ seen
-    (ran 2 ((2, 2, 99, 4, 0, 2) ∷ (2, 2, 99, 4, 0, 3) ∷ (2, 2, 99, 4, 0, 2) ∷ []) 0 0 ∷ holds (parks ((32768, 2, 2) ∷ (32768, 2, 2) ∷ []) ∷ c0 ∷ c0 ∷ s_passive inf ((1, none, some 0) ∷ (2, some 0, some 0) ∷ (3, some 0, none) ∷ []) ∷ b_release 0 (3 ∷ 3 ∷ []) ∷ []) ((2, 2, 99, 4, 0, 2) ∷ []) ∷ ran 3 ((2, 2, 99, 4, 0, 3) ∷ (2, 2, 99, 4, 0, 3) ∷ (2, 2, 99, 4, 0, 2) ∷ []) 0 0 ∷ holds (parks ((32768, 2, 2) ∷ (32768, 2, 2) ∷ []) ∷ c0 ∷ c0 ∷ s_passive inf ((1, none, some 0) ∷ (2, some 0, some 0) ∷ (3, some 0, none) ∷ []) ∷ b_release 0 (2 ∷ 3 ∷ 3 ∷ 3 ∷ 3 ∷ []) ∷ []) ((2, 2, 99, 4, 0, 2) ∷ []) ∷ ran 1 ((2, 2, 99, 4, 0, 2) ∷ []) 0 0 ∷ [])
-    (parks ((32768, 2, 2) ∷ (32768, 2, 2) ∷ []) ∷ c0 ∷ c0 ∷ s_passive inf ((1, none, some 0) ∷ (2, some 0, some 0) ∷ (3, some 0, none) ∷ []) ∷ b_release 0 (3 ∷ 3 ∷ 3 ∷ 3 ∷ 2 ∷ 2 ∷ []) ∷ []) ((2, 2, 99, 4, 0, 2) ∷ [])
+    (ran 2 ((2, 2, 99, 4, 0, 2) ∷ (2, 2, 99, 4, 0, 3) ∷ (2, 2, 99, 4, 0, 2) ∷ []) 0 0 ∷ holds (parks ((32768, 2, 2) ∷ (32768, 2, 2) ∷ []) ∷ c0 ∷ c0 ∷ s_passive inf ((1, None, Some 0) ∷ (2, Some 0, Some 0) ∷ (3, Some 0, None) ∷ []) ∷ b_release 0 (3 ∷ 3 ∷ []) ∷ []) ((2, 2, 99, 4, 0, 2) ∷ []) ∷ ran 3 ((2, 2, 99, 4, 0, 3) ∷ (2, 2, 99, 4, 0, 3) ∷ (2, 2, 99, 4, 0, 2) ∷ []) 0 0 ∷ holds (parks ((32768, 2, 2) ∷ (32768, 2, 2) ∷ []) ∷ c0 ∷ c0 ∷ s_passive inf ((1, None, Some 0) ∷ (2, Some 0, Some 0) ∷ (3, Some 0, None) ∷ []) ∷ b_release 0 (2 ∷ 3 ∷ 3 ∷ 3 ∷ 3 ∷ []) ∷ []) ((2, 2, 99, 4, 0, 2) ∷ []) ∷ ran 1 ((2, 2, 99, 4, 0, 2) ∷ []) 0 0 ∷ [])
+    (parks ((32768, 2, 2) ∷ (32768, 2, 2) ∷ []) ∷ c0 ∷ c0 ∷ s_passive inf ((1, None, Some 0) ∷ (2, Some 0, Some 0) ∷ (3, Some 0, None) ∷ []) ∷ b_release 0 (3 ∷ 3 ∷ 3 ∷ 3 ∷ 2 ∷ 2 ∷ []) ∷ []) ((2, 2, 99, 4, 0, 2) ∷ [])
 unfolding play
 case-184 = refl
 
@@ -111,8 +110,8 @@ pub case-185 :
     (0x3fd2492492492492 ∷ 0x4004000000000000 ∷ [])
     (inject 0 0 6 1 0x4004000000000000 2 ∷ job 5 2 3 ∷ job 7 1 2 ∷ job 7 2 2 ∷ job 8 3 1 ∷ job 7 3 2 ∷ steps 1 ∷ look ∷ step ∷ look ∷ status 1 ∷ step ∷ look ∷ step ∷ look ∷ step ∷ look ∷ job 7 3 2 ∷ job 7 2 2 ∷ until 0x401c666666666666 4 ∷ [])
     ≡ seen
-    (ran 1 ((8, 2, 5, 2, 0, 1) ∷ (7, 1, 7, 1, 0, 2) ∷ []) 0 1 ∷ holds (b0 ∷ s_passive inf ((2, some 0, some 0) ∷ []) ∷ b0 ∷ p_active 0x3fd2492492492492 (2 ∷ []) ∷ b_batching 0x3fb999999999999a (3 ∷ []) ∷ p0 ∷ []) ((8, 2, 5, 2, 0, 1) ∷ (7, 1, 7, 1, 0, 2) ∷ []) ∷ ran 1 [] 0 1 ∷ holds (b0 ∷ s_passive inf ((2, some 0, some 0) ∷ []) ∷ b0 ∷ p_active 0x3fd2492492492492 (2 ∷ []) ∷ b_batching 0x3fb999999999999a (3 ∷ 1 ∷ []) ∷ p0 ∷ []) [] ∷ says (OfBatcher batching.Passive) ∷ ran 1 ((5, 2, 7, 3, 0x3fb999999999999a, 3) ∷ (5, 2, 7, 3, 0x3fb999999999999a, 1) ∷ []) 0x3fb999999999999a 1 ∷ holds (b0 ∷ s_passive inf ((2, some 0, some 0) ∷ []) ∷ b0 ∷ p_active 0x3fc7c57c57c57c57 (2 ∷ []) ∷ b0 ∷ p0 ∷ []) ((5, 2, 7, 3, 0x3fb999999999999a, 3) ∷ (5, 2, 7, 3, 0x3fb999999999999a, 1) ∷ []) ∷ ran 1 ((7, 1, 7, 1, 0x3fb999999999999a, 2) ∷ []) 0x3fb999999999999a 1 ∷ holds (b0 ∷ s_passive inf ((2, some 0, some 0) ∷ []) ∷ b0 ∷ p_active 0x3fc7c57c57c57c57 (2 ∷ []) ∷ b0 ∷ p0 ∷ []) ((7, 1, 7, 1, 0x3fb999999999999a, 2) ∷ []) ∷ ran 1 [] 0x3fb999999999999a 1 ∷ holds (b0 ∷ s_passive inf ((2, some 0x3fb999999999999a, some 0) ∷ []) ∷ b0 ∷ p_active 0x3fc7c57c57c57c57 (2 ∷ []) ∷ b0 ∷ p0 ∷ []) [] ∷ spent 4 ((7, 1, 7, 1, 0x3fb999999999999a, 2) ∷ []) 0x3fd2492492492492 1 ∷ [])
-    (b0 ∷ s_passive inf ((2, some 0x3fb999999999999a, some 0x3fb999999999999a) ∷ []) ∷ b0 ∷ p0 ∷ b0 ∷ p0 ∷ []) []
+    (ran 1 ((8, 2, 5, 2, 0, 1) ∷ (7, 1, 7, 1, 0, 2) ∷ []) 0 1 ∷ holds (b0 ∷ s_passive inf ((2, Some 0, Some 0) ∷ []) ∷ b0 ∷ p_active 0x3fd2492492492492 (2 ∷ []) ∷ b_batching 0x3fb999999999999a (3 ∷ []) ∷ p0 ∷ []) ((8, 2, 5, 2, 0, 1) ∷ (7, 1, 7, 1, 0, 2) ∷ []) ∷ ran 1 [] 0 1 ∷ holds (b0 ∷ s_passive inf ((2, Some 0, Some 0) ∷ []) ∷ b0 ∷ p_active 0x3fd2492492492492 (2 ∷ []) ∷ b_batching 0x3fb999999999999a (3 ∷ 1 ∷ []) ∷ p0 ∷ []) [] ∷ says (OfBatcher batching.Passive) ∷ ran 1 ((5, 2, 7, 3, 0x3fb999999999999a, 3) ∷ (5, 2, 7, 3, 0x3fb999999999999a, 1) ∷ []) 0x3fb999999999999a 1 ∷ holds (b0 ∷ s_passive inf ((2, Some 0, Some 0) ∷ []) ∷ b0 ∷ p_active 0x3fc7c57c57c57c57 (2 ∷ []) ∷ b0 ∷ p0 ∷ []) ((5, 2, 7, 3, 0x3fb999999999999a, 3) ∷ (5, 2, 7, 3, 0x3fb999999999999a, 1) ∷ []) ∷ ran 1 ((7, 1, 7, 1, 0x3fb999999999999a, 2) ∷ []) 0x3fb999999999999a 1 ∷ holds (b0 ∷ s_passive inf ((2, Some 0, Some 0) ∷ []) ∷ b0 ∷ p_active 0x3fc7c57c57c57c57 (2 ∷ []) ∷ b0 ∷ p0 ∷ []) ((7, 1, 7, 1, 0x3fb999999999999a, 2) ∷ []) ∷ ran 1 [] 0x3fb999999999999a 1 ∷ holds (b0 ∷ s_passive inf ((2, Some 0x3fb999999999999a, Some 0) ∷ []) ∷ b0 ∷ p_active 0x3fc7c57c57c57c57 (2 ∷ []) ∷ b0 ∷ p0 ∷ []) [] ∷ spent 4 ((7, 1, 7, 1, 0x3fb999999999999a, 2) ∷ []) 0x3fd2492492492492 1 ∷ [])
+    (b0 ∷ s_passive inf ((2, Some 0x3fb999999999999a, Some 0x3fb999999999999a) ∷ []) ∷ b0 ∷ p0 ∷ b0 ∷ p0 ∷ []) []
 unfolding play
 case-185 = refl
 
@@ -144,8 +143,8 @@ pub case-188 :
     (0 ∷ 0x4010000000000000 ∷ 0x3fe6666666666666 ∷ 0 ∷ 0x3fd3333333333333 ∷ 0x3fe6666666666666 ∷ 0x3fe6666666666666 ∷ [])
     (job 4096 4 0 ∷ inject 0 0 257 1 0x3fd2492492492492 7 ∷ job 257 1 2147483648 ∷ inject 0 0 257 4 0x4010000000000000 7 ∷ job 257 1 4294967295 ∷ status 4096 ∷ until 0x4010000000000000 0 ∷ look ∷ until 0 501 ∷ look ∷ steps 3 ∷ look ∷ job 1 4 7 ∷ inject 0 0 1 2 0x401c000000000000 7 ∷ job 257 1 2147483648 ∷ until 0 501 ∷ look ∷ steps 4 ∷ look ∷ step ∷ look ∷ steps 0 ∷ look ∷ job 4096 4 4294967295 ∷ steps 0 ∷ look ∷ step ∷ [])
     ≡ seen
-    (says (Mean none) ∷ spent 0 [] 0 0 ∷ holds (s0 ∷ c0 ∷ s0 ∷ c0 ∷ p0 ∷ p0 ∷ p0 ∷ []) ((0, 0, 4096, 4, 0, 0) ∷ (0, 0, 257, 1, 0x3fd2492492492492, 7) ∷ (0, 0, 257, 1, 0, 2147483648) ∷ (0, 0, 257, 4, 0x4010000000000000, 7) ∷ (0, 0, 257, 1, 0, 4294967295) ∷ []) ∷ reached 1 [] 0 1 ∷ holds (s0 ∷ c0 ∷ s_passive inf ((0, none, some 0) ∷ []) ∷ parks ((65534, 1, 7) ∷ (256, 1, 7) ∷ []) ∷ p0 ∷ p_passive 0 [] ∷ p0 ∷ []) [] ∷ ran 3 ((257, 1, 4096, 3, 0x3fe6666666666666, 7) ∷ (257, 1, 4096, 3, 0x3fe6666666666666, 7) ∷ []) 0x3fe6666666666666 3 ∷ holds (s0 ∷ c0 ∷ s_passive inf ((0, none, some 0) ∷ (7, some 0x3fe6666666666666, none) ∷ []) ∷ c0 ∷ p_active 0x400a666666666666 (7 ∷ []) ∷ p0 ∷ p0 ∷ []) [] ∷ reached 1 [] 0x3fe6666666666666 4 ∷ holds (s_passive inf ((7, some 0x3fe6666666666666, some 0x3fe6666666666666) ∷ []) ∷ c0 ∷ s_passive inf ((0, none, some 0) ∷ (7, some 0x3fe6666666666666, none) ∷ []) ∷ parks ((65534, 1, 2147483648) ∷ (256, 1, 2147483648) ∷ []) ∷ p_active 0x400a666666666666 (7 ∷ []) ∷ p_passive 0 [] ∷ p0 ∷ []) [] ∷ ran 4 ((257, 1, 4096, 3, 0x3ff0000000000000, 2147483648) ∷ (257, 1, 4096, 3, 0x3ff0000000000000, 2147483648) ∷ []) 0x4010000000000000 5 ∷ holds (s_passive inf ((7, some 0x3fe6666666666666, some 0x3fe6666666666666) ∷ []) ∷ parks ((65535, 1, 7) ∷ (65535, 1, 7) ∷ (98, 1, 7) ∷ (65535, 1, 7) ∷ []) ∷ s_passive inf ((0, none, some 0) ∷ (7, some 0x3fe6666666666666, none) ∷ (2147483648, some 0x3ff0000000000000, none) ∷ []) ∷ c0 ∷ p_passive 0 (2147483648 ∷ []) ∷ p0 ∷ p0 ∷ []) [] ∷ ran 1 [] 0x4010000000000000 6 ∷ holds (s_passive inf ((7, some 0x3fe6666666666666, some 0x3fe6666666666666) ∷ []) ∷ c0 ∷ s_passive inf ((0, none, some 0) ∷ (7, some 0x3fe6666666666666, none) ∷ (2147483648, some 0x3ff0000000000000, none) ∷ []) ∷ c0 ∷ p_active 0x3fe6666666666666 (2147483648 ∷ 7 ∷ 7 ∷ 7 ∷ []) ∷ p0 ∷ p0 ∷ []) [] ∷ ran 0 [] 0x4010000000000000 6 ∷ holds (s_passive inf ((7, some 0x3fe6666666666666, some 0x3fe6666666666666) ∷ []) ∷ c0 ∷ s_passive inf ((0, none, some 0) ∷ (7, some 0x3fe6666666666666, none) ∷ (2147483648, some 0x3ff0000000000000, none) ∷ []) ∷ c0 ∷ p_active 0x3fe6666666666666 (2147483648 ∷ 7 ∷ 7 ∷ 7 ∷ []) ∷ p0 ∷ p0 ∷ []) [] ∷ ran 0 [] 0x4010000000000000 6 ∷ holds (s_passive inf ((7, some 0x3fe6666666666666, some 0x3fe6666666666666) ∷ []) ∷ c0 ∷ s_passive inf ((0, none, some 0) ∷ (7, some 0x3fe6666666666666, none) ∷ (2147483648, some 0x3ff0000000000000, none) ∷ []) ∷ c0 ∷ p_active 0x3fe6666666666666 (2147483648 ∷ 7 ∷ 7 ∷ 7 ∷ []) ∷ p0 ∷ p0 ∷ []) ((0, 0, 4096, 4, 0, 4294967295) ∷ []) ∷ ran 1 [] 0x4010000000000000 6 ∷ [])
-    (s_passive inf ((7, some 0x3fe6666666666666, some 0x3fe6666666666666) ∷ []) ∷ c0 ∷ s_passive inf ((0, none, some 0) ∷ (7, some 0x3fe6666666666666, none) ∷ (2147483648, some 0x3ff0000000000000, none) ∷ (4294967295, none, some 0x4010000000000000) ∷ []) ∷ c0 ∷ p_active 0x3fe6666666666666 (2147483648 ∷ 7 ∷ 7 ∷ 7 ∷ []) ∷ p0 ∷ p0 ∷ []) []
+    (says (Mean None) ∷ spent 0 [] 0 0 ∷ holds (s0 ∷ c0 ∷ s0 ∷ c0 ∷ p0 ∷ p0 ∷ p0 ∷ []) ((0, 0, 4096, 4, 0, 0) ∷ (0, 0, 257, 1, 0x3fd2492492492492, 7) ∷ (0, 0, 257, 1, 0, 2147483648) ∷ (0, 0, 257, 4, 0x4010000000000000, 7) ∷ (0, 0, 257, 1, 0, 4294967295) ∷ []) ∷ reached 1 [] 0 1 ∷ holds (s0 ∷ c0 ∷ s_passive inf ((0, None, Some 0) ∷ []) ∷ parks ((65534, 1, 7) ∷ (256, 1, 7) ∷ []) ∷ p0 ∷ p_passive 0 [] ∷ p0 ∷ []) [] ∷ ran 3 ((257, 1, 4096, 3, 0x3fe6666666666666, 7) ∷ (257, 1, 4096, 3, 0x3fe6666666666666, 7) ∷ []) 0x3fe6666666666666 3 ∷ holds (s0 ∷ c0 ∷ s_passive inf ((0, None, Some 0) ∷ (7, Some 0x3fe6666666666666, None) ∷ []) ∷ c0 ∷ p_active 0x400a666666666666 (7 ∷ []) ∷ p0 ∷ p0 ∷ []) [] ∷ reached 1 [] 0x3fe6666666666666 4 ∷ holds (s_passive inf ((7, Some 0x3fe6666666666666, Some 0x3fe6666666666666) ∷ []) ∷ c0 ∷ s_passive inf ((0, None, Some 0) ∷ (7, Some 0x3fe6666666666666, None) ∷ []) ∷ parks ((65534, 1, 2147483648) ∷ (256, 1, 2147483648) ∷ []) ∷ p_active 0x400a666666666666 (7 ∷ []) ∷ p_passive 0 [] ∷ p0 ∷ []) [] ∷ ran 4 ((257, 1, 4096, 3, 0x3ff0000000000000, 2147483648) ∷ (257, 1, 4096, 3, 0x3ff0000000000000, 2147483648) ∷ []) 0x4010000000000000 5 ∷ holds (s_passive inf ((7, Some 0x3fe6666666666666, Some 0x3fe6666666666666) ∷ []) ∷ parks ((65535, 1, 7) ∷ (65535, 1, 7) ∷ (98, 1, 7) ∷ (65535, 1, 7) ∷ []) ∷ s_passive inf ((0, None, Some 0) ∷ (7, Some 0x3fe6666666666666, None) ∷ (2147483648, Some 0x3ff0000000000000, None) ∷ []) ∷ c0 ∷ p_passive 0 (2147483648 ∷ []) ∷ p0 ∷ p0 ∷ []) [] ∷ ran 1 [] 0x4010000000000000 6 ∷ holds (s_passive inf ((7, Some 0x3fe6666666666666, Some 0x3fe6666666666666) ∷ []) ∷ c0 ∷ s_passive inf ((0, None, Some 0) ∷ (7, Some 0x3fe6666666666666, None) ∷ (2147483648, Some 0x3ff0000000000000, None) ∷ []) ∷ c0 ∷ p_active 0x3fe6666666666666 (2147483648 ∷ 7 ∷ 7 ∷ 7 ∷ []) ∷ p0 ∷ p0 ∷ []) [] ∷ ran 0 [] 0x4010000000000000 6 ∷ holds (s_passive inf ((7, Some 0x3fe6666666666666, Some 0x3fe6666666666666) ∷ []) ∷ c0 ∷ s_passive inf ((0, None, Some 0) ∷ (7, Some 0x3fe6666666666666, None) ∷ (2147483648, Some 0x3ff0000000000000, None) ∷ []) ∷ c0 ∷ p_active 0x3fe6666666666666 (2147483648 ∷ 7 ∷ 7 ∷ 7 ∷ []) ∷ p0 ∷ p0 ∷ []) [] ∷ ran 0 [] 0x4010000000000000 6 ∷ holds (s_passive inf ((7, Some 0x3fe6666666666666, Some 0x3fe6666666666666) ∷ []) ∷ c0 ∷ s_passive inf ((0, None, Some 0) ∷ (7, Some 0x3fe6666666666666, None) ∷ (2147483648, Some 0x3ff0000000000000, None) ∷ []) ∷ c0 ∷ p_active 0x3fe6666666666666 (2147483648 ∷ 7 ∷ 7 ∷ 7 ∷ []) ∷ p0 ∷ p0 ∷ []) ((0, 0, 4096, 4, 0, 4294967295) ∷ []) ∷ ran 1 [] 0x4010000000000000 6 ∷ [])
+    (s_passive inf ((7, Some 0x3fe6666666666666, Some 0x3fe6666666666666) ∷ []) ∷ c0 ∷ s_passive inf ((0, None, Some 0) ∷ (7, Some 0x3fe6666666666666, None) ∷ (2147483648, Some 0x3ff0000000000000, None) ∷ (4294967295, None, Some 0x4010000000000000) ∷ []) ∷ c0 ∷ p_active 0x3fe6666666666666 (2147483648 ∷ 7 ∷ 7 ∷ 7 ∷ []) ∷ p0 ∷ p0 ∷ []) []
 unfolding play
 case-188 = refl
 
@@ -232,8 +231,8 @@ pub case-196 :
     (0x4004000000000000 ∷ [])
     (job 8 255 1 ∷ step ∷ look ∷ job 8 255 3 ∷ steps 1 ∷ look ∷ job 8 256 1 ∷ reset ∷ inject 5 3 8 0 0 1 ∷ job 8 0 3 ∷ until 0x4024000000000000 0 ∷ look ∷ steps 1 ∷ look ∷ job 8 255 1 ∷ steps 1 ∷ [])
     ≡ seen
-    (ran 1 [] 0 0 ∷ holds (c0 ∷ c0 ∷ c0 ∷ c0 ∷ b0 ∷ b0 ∷ s_passive inf ((1, some 0, none) ∷ []) ∷ []) [] ∷ ran 1 [] 0 0 ∷ holds (c0 ∷ c0 ∷ c0 ∷ c0 ∷ b0 ∷ b0 ∷ s_passive inf ((1, some 0, none) ∷ (3, some 0, none) ∷ []) ∷ []) [] ∷ spent 0 [] 0 0 ∷ holds (c0 ∷ c0 ∷ c0 ∷ c0 ∷ b0 ∷ b0 ∷ s_passive inf ((1, some 0, none) ∷ (3, some 0, none) ∷ []) ∷ []) ((5, 3, 8, 0, 0, 1) ∷ (0, 0, 8, 0, 0, 3) ∷ []) ∷ ran 1 [] 0 0 ∷ holds (c0 ∷ c0 ∷ c0 ∷ c0 ∷ b0 ∷ b0 ∷ s_passive inf ((1, some 0, none) ∷ (3, some 0, none) ∷ []) ∷ []) [] ∷ ran 1 [] 0 0 ∷ [])
-    (c0 ∷ c0 ∷ c0 ∷ c0 ∷ b0 ∷ b0 ∷ s_passive inf ((1, some 0, none) ∷ (3, some 0, none) ∷ []) ∷ []) []
+    (ran 1 [] 0 0 ∷ holds (c0 ∷ c0 ∷ c0 ∷ c0 ∷ b0 ∷ b0 ∷ s_passive inf ((1, Some 0, None) ∷ []) ∷ []) [] ∷ ran 1 [] 0 0 ∷ holds (c0 ∷ c0 ∷ c0 ∷ c0 ∷ b0 ∷ b0 ∷ s_passive inf ((1, Some 0, None) ∷ (3, Some 0, None) ∷ []) ∷ []) [] ∷ spent 0 [] 0 0 ∷ holds (c0 ∷ c0 ∷ c0 ∷ c0 ∷ b0 ∷ b0 ∷ s_passive inf ((1, Some 0, None) ∷ (3, Some 0, None) ∷ []) ∷ []) ((5, 3, 8, 0, 0, 1) ∷ (0, 0, 8, 0, 0, 3) ∷ []) ∷ ran 1 [] 0 0 ∷ holds (c0 ∷ c0 ∷ c0 ∷ c0 ∷ b0 ∷ b0 ∷ s_passive inf ((1, Some 0, None) ∷ (3, Some 0, None) ∷ []) ∷ []) [] ∷ ran 1 [] 0 0 ∷ [])
+    (c0 ∷ c0 ∷ c0 ∷ c0 ∷ b0 ∷ b0 ∷ s_passive inf ((1, Some 0, None) ∷ (3, Some 0, None) ∷ []) ∷ []) []
 unfolding play
 case-196 = refl
 
@@ -243,8 +242,8 @@ pub case-197 :
     []
     (inject 0 0 8 1 0x3e112e0be826d695 3 ∷ job 7 32768 3 ∷ job 1 1 2 ∷ status 2 ∷ step ∷ look ∷ steps 2 ∷ look ∷ job 3 32768 1 ∷ inject 65535 3 8 32768 0 1 ∷ step ∷ look ∷ steps 0 ∷ look ∷ step ∷ look ∷ job 7 1 3 ∷ until 0x3fe6666666666666 2 ∷ [])
     ≡ seen
-    (says (OfProcessor working.Passive) ∷ ran 1 [] 0 0 ∷ holds (b_batching 0x3fe6666666666666 (2 ∷ []) ∷ b0 ∷ s_passive inf ((3, some 0, none) ∷ []) ∷ p0 ∷ c0 ∷ c0 ∷ []) [] ∷ ran 2 ((1, 1, 8, 32768, 0x3fe6666666666666, 2) ∷ (1, 1, 5, 32768, 0x3fe6666666666666, 2) ∷ (1, 1, 7, 1, 0x3fe6666666666666, 2) ∷ []) 0x3fe6666666666666 0 ∷ holds (b0 ∷ b_batching 0x0011fa182c40c60d (2 ∷ []) ∷ s_passive inf ((3, some 0, none) ∷ (2, none, some 0x3fe6666666666666) ∷ []) ∷ p0 ∷ c0 ∷ c0 ∷ []) [] ∷ ran 1 [] 0x3fe6666666666666 0 ∷ holds (b0 ∷ b_batching 0x0011fa182c40c60d (2 ∷ []) ∷ s_passive inf ((3, some 0, none) ∷ (2, none, some 0x3fe6666666666666) ∷ []) ∷ p0 ∷ c0 ∷ c0 ∷ []) [] ∷ ran 0 [] 0x3fe6666666666666 0 ∷ holds (b0 ∷ b_batching 0x0011fa182c40c60d (2 ∷ []) ∷ s_passive inf ((3, some 0, none) ∷ (2, none, some 0x3fe6666666666666) ∷ []) ∷ p0 ∷ c0 ∷ c0 ∷ []) [] ∷ ran 1 ((5, 1, 8, 32768, 0x3fe6666666666666, 2) ∷ []) 0x3fe6666666666666 0 ∷ holds (b0 ∷ b0 ∷ s_passive inf ((3, some 0, none) ∷ (2, none, some 0x3fe6666666666666) ∷ []) ∷ p0 ∷ c0 ∷ c0 ∷ []) ((5, 1, 8, 32768, 0x3fe6666666666666, 2) ∷ []) ∷ reached 1 [] 0x3fe6666666666666 0 ∷ [])
-    (b0 ∷ b0 ∷ s_passive inf ((3, some 0, some 0x3fe6666666666666) ∷ (2, none, some 0x3fe6666666666666) ∷ []) ∷ p0 ∷ c0 ∷ c0 ∷ []) []
+    (says (OfProcessor working.Passive) ∷ ran 1 [] 0 0 ∷ holds (b_batching 0x3fe6666666666666 (2 ∷ []) ∷ b0 ∷ s_passive inf ((3, Some 0, None) ∷ []) ∷ p0 ∷ c0 ∷ c0 ∷ []) [] ∷ ran 2 ((1, 1, 8, 32768, 0x3fe6666666666666, 2) ∷ (1, 1, 5, 32768, 0x3fe6666666666666, 2) ∷ (1, 1, 7, 1, 0x3fe6666666666666, 2) ∷ []) 0x3fe6666666666666 0 ∷ holds (b0 ∷ b_batching 0x0011fa182c40c60d (2 ∷ []) ∷ s_passive inf ((3, Some 0, None) ∷ (2, None, Some 0x3fe6666666666666) ∷ []) ∷ p0 ∷ c0 ∷ c0 ∷ []) [] ∷ ran 1 [] 0x3fe6666666666666 0 ∷ holds (b0 ∷ b_batching 0x0011fa182c40c60d (2 ∷ []) ∷ s_passive inf ((3, Some 0, None) ∷ (2, None, Some 0x3fe6666666666666) ∷ []) ∷ p0 ∷ c0 ∷ c0 ∷ []) [] ∷ ran 0 [] 0x3fe6666666666666 0 ∷ holds (b0 ∷ b_batching 0x0011fa182c40c60d (2 ∷ []) ∷ s_passive inf ((3, Some 0, None) ∷ (2, None, Some 0x3fe6666666666666) ∷ []) ∷ p0 ∷ c0 ∷ c0 ∷ []) [] ∷ ran 1 ((5, 1, 8, 32768, 0x3fe6666666666666, 2) ∷ []) 0x3fe6666666666666 0 ∷ holds (b0 ∷ b0 ∷ s_passive inf ((3, Some 0, None) ∷ (2, None, Some 0x3fe6666666666666) ∷ []) ∷ p0 ∷ c0 ∷ c0 ∷ []) ((5, 1, 8, 32768, 0x3fe6666666666666, 2) ∷ []) ∷ reached 1 [] 0x3fe6666666666666 0 ∷ [])
+    (b0 ∷ b0 ∷ s_passive inf ((3, Some 0, Some 0x3fe6666666666666) ∷ (2, None, Some 0x3fe6666666666666) ∷ []) ∷ p0 ∷ c0 ∷ c0 ∷ []) []
 unfolding play
 case-197 = refl
 
@@ -276,7 +275,7 @@ pub case-200 :
     (0x3e112e0be826d695 ∷ 0x401c000000000000 ∷ 0x4010000000000000 ∷ 0x4004000000000000 ∷ 0x401c000000000000 ∷ 0x3fe6666666666666 ∷ 0x4010000000000000 ∷ [])
     (job 6 1000 1 ∷ inject 5 3 9 1000 0 2 ∷ job 2 1000 2 ∷ job 6 1000 3 ∷ job 1 1000 2 ∷ step ∷ look ∷ steps 0 ∷ look ∷ step ∷ look ∷ steps 2 ∷ look ∷ job 6 1000 2 ∷ job 6 1000 1 ∷ job 1 1000 1 ∷ step ∷ look ∷ step ∷ look ∷ step ∷ look ∷ step ∷ look ∷ step ∷ look ∷ step ∷ look ∷ steps 0 ∷ look ∷ steps 0 ∷ look ∷ inject 0 0 8 65534 0x3fd3333333333333 2 ∷ inject 0 0 8 1000 0x3fe6666666666666 2 ∷ job 8 1000 2 ∷ until 0x402b000000000000 1 ∷ [])
     ≡ seen
-    (ran 1 [] 0 3 ∷ holds (s0 ∷ b_batching 0x4028b0a3d70a3d71 (2 ∷ []) ∷ p_active 0x3e112e0be826d695 (2 ∷ []) ∷ p_active 0x401c000000000000 (1 ∷ []) ∷ p_active 0x4010000000000000 (2 ∷ []) ∷ []) [] ∷ ran 0 [] 0 3 ∷ holds (s0 ∷ b_batching 0x4028b0a3d70a3d71 (2 ∷ []) ∷ p_active 0x3e112e0be826d695 (2 ∷ []) ∷ p_active 0x401c000000000000 (1 ∷ []) ∷ p_active 0x4010000000000000 (2 ∷ []) ∷ []) [] ∷ ran 1 ((9, 1000, 8, 65534, 0x3e112e0be826d695, 2) ∷ []) 0x3e112e0be826d695 3 ∷ holds (s0 ∷ b_batching 0x4028b0a3d701a66b (2 ∷ []) ∷ p_passive 0 [] ∷ p_active 0x401bffffffeed1f4 (1 ∷ []) ∷ p_active 0x400fffffffdda3e8 (2 ∷ []) ∷ []) ((9, 1000, 8, 65534, 0x3e112e0be826d695, 2) ∷ []) ∷ ran 2 ((1, 1000, 8, 32768, 0x4010000000000000, 2) ∷ (1, 1000, 9, 1000, 0x4010000000000000, 2) ∷ []) 0x4010000000000000 3 ∷ holds (s_passive inf ((2, none, some 0x3e112e0be826d695) ∷ []) ∷ b_batching 0x4020b0a3d70a3d71 (2 ∷ []) ∷ p0 ∷ p_active 0x4008000000000000 (1 ∷ []) ∷ p_passive 0 [] ∷ []) ((1, 1000, 8, 32768, 0x4010000000000000, 2) ∷ (1, 1000, 9, 1000, 0x4010000000000000, 2) ∷ []) ∷ ran 1 [] 0x4010000000000000 5 ∷ holds (s_passive inf ((2, some 0x4010000000000000, some 0x3e112e0be826d695) ∷ []) ∷ b_batching 0x4020b0a3d70a3d71 (2 ∷ []) ∷ p_active 0x4004000000000000 (2 ∷ []) ∷ p_active 0x4008000000000000 (1 ∷ []) ∷ p_active 0x401c000000000000 (1 ∷ []) ∷ []) [] ∷ ran 1 ((9, 1000, 8, 65534, 0x401a000000000000, 2) ∷ []) 0x401a000000000000 5 ∷ holds (s_passive inf ((2, some 0x4010000000000000, some 0x3e112e0be826d695) ∷ []) ∷ b_batching 0x40176147ae147ae2 (2 ∷ []) ∷ p_passive 0 [] ∷ p_active 0x3fe0000000000000 (1 ∷ []) ∷ p_active 0x4012000000000000 (1 ∷ []) ∷ []) ((9, 1000, 8, 65534, 0x401a000000000000, 2) ∷ []) ∷ ran 1 [] 0x401a000000000000 5 ∷ holds (s_passive inf ((2, some 0x4010000000000000, some 0x401a000000000000) ∷ []) ∷ b_batching 0x40176147ae147ae2 (2 ∷ []) ∷ p0 ∷ p_active 0x3fe0000000000000 (1 ∷ []) ∷ p_active 0x4012000000000000 (1 ∷ []) ∷ []) [] ∷ ran 1 [] 0x401c000000000000 5 ∷ holds (s_passive inf ((2, some 0x4010000000000000, some 0x401a000000000000) ∷ []) ∷ b_batching 0x40156147ae147ae2 (2 ∷ []) ∷ p0 ∷ p_passive 0 [] ∷ p_active 0x4010000000000000 (1 ∷ []) ∷ []) [] ∷ ran 1 [] 0x401c000000000000 5 ∷ holds (s_passive inf ((2, some 0x4010000000000000, some 0x401a000000000000) ∷ []) ∷ b_batching 0x40156147ae147ae2 (2 ∷ []) ∷ p0 ∷ p0 ∷ p_active 0x4010000000000000 (1 ∷ []) ∷ []) [] ∷ ran 1 ((1, 1000, 8, 32768, 0x4026000000000000, 1) ∷ (1, 1000, 9, 1000, 0x4026000000000000, 1) ∷ []) 0x4026000000000000 5 ∷ holds (s_passive inf ((2, some 0x4010000000000000, some 0x401a000000000000) ∷ []) ∷ b_batching 0x3ff5851eb851eb88 (2 ∷ []) ∷ p0 ∷ p0 ∷ p_passive 0 [] ∷ []) ((1, 1000, 8, 32768, 0x4026000000000000, 1) ∷ (1, 1000, 9, 1000, 0x4026000000000000, 1) ∷ []) ∷ ran 0 [] 0x4026000000000000 5 ∷ holds (s_passive inf ((2, some 0x4010000000000000, some 0x401a000000000000) ∷ []) ∷ b_batching 0x3ff5851eb851eb88 (2 ∷ []) ∷ p0 ∷ p0 ∷ p_passive 0 [] ∷ []) ((1, 1000, 8, 32768, 0x4026000000000000, 1) ∷ (1, 1000, 9, 1000, 0x4026000000000000, 1) ∷ []) ∷ ran 0 [] 0x4026000000000000 5 ∷ holds (s_passive inf ((2, some 0x4010000000000000, some 0x401a000000000000) ∷ []) ∷ b_batching 0x3ff5851eb851eb88 (2 ∷ []) ∷ p0 ∷ p0 ∷ p_passive 0 [] ∷ []) ((1, 1000, 8, 32768, 0x4026000000000000, 1) ∷ (1, 1000, 9, 1000, 0x4026000000000000, 1) ∷ []) ∷ spent 1 ((8, 1000, 1, 1000, 0x4026000000000000, 2) ∷ []) 0x4026000000000000 6 ∷ [])
-    (s_passive inf ((2, some 0x4010000000000000, some 0x4026000000000000) ∷ (1, some 0x4026000000000000, none) ∷ []) ∷ b_batching 0x3ff5851eb851eb88 (2 ∷ []) ∷ p_active 0x3fe6666666666666 (1 ∷ []) ∷ p0 ∷ p0 ∷ []) ((8, 1000, 1, 1000, 0x4026000000000000, 2) ∷ [])
+    (ran 1 [] 0 3 ∷ holds (s0 ∷ b_batching 0x4028b0a3d70a3d71 (2 ∷ []) ∷ p_active 0x3e112e0be826d695 (2 ∷ []) ∷ p_active 0x401c000000000000 (1 ∷ []) ∷ p_active 0x4010000000000000 (2 ∷ []) ∷ []) [] ∷ ran 0 [] 0 3 ∷ holds (s0 ∷ b_batching 0x4028b0a3d70a3d71 (2 ∷ []) ∷ p_active 0x3e112e0be826d695 (2 ∷ []) ∷ p_active 0x401c000000000000 (1 ∷ []) ∷ p_active 0x4010000000000000 (2 ∷ []) ∷ []) [] ∷ ran 1 ((9, 1000, 8, 65534, 0x3e112e0be826d695, 2) ∷ []) 0x3e112e0be826d695 3 ∷ holds (s0 ∷ b_batching 0x4028b0a3d701a66b (2 ∷ []) ∷ p_passive 0 [] ∷ p_active 0x401bffffffeed1f4 (1 ∷ []) ∷ p_active 0x400fffffffdda3e8 (2 ∷ []) ∷ []) ((9, 1000, 8, 65534, 0x3e112e0be826d695, 2) ∷ []) ∷ ran 2 ((1, 1000, 8, 32768, 0x4010000000000000, 2) ∷ (1, 1000, 9, 1000, 0x4010000000000000, 2) ∷ []) 0x4010000000000000 3 ∷ holds (s_passive inf ((2, None, Some 0x3e112e0be826d695) ∷ []) ∷ b_batching 0x4020b0a3d70a3d71 (2 ∷ []) ∷ p0 ∷ p_active 0x4008000000000000 (1 ∷ []) ∷ p_passive 0 [] ∷ []) ((1, 1000, 8, 32768, 0x4010000000000000, 2) ∷ (1, 1000, 9, 1000, 0x4010000000000000, 2) ∷ []) ∷ ran 1 [] 0x4010000000000000 5 ∷ holds (s_passive inf ((2, Some 0x4010000000000000, Some 0x3e112e0be826d695) ∷ []) ∷ b_batching 0x4020b0a3d70a3d71 (2 ∷ []) ∷ p_active 0x4004000000000000 (2 ∷ []) ∷ p_active 0x4008000000000000 (1 ∷ []) ∷ p_active 0x401c000000000000 (1 ∷ []) ∷ []) [] ∷ ran 1 ((9, 1000, 8, 65534, 0x401a000000000000, 2) ∷ []) 0x401a000000000000 5 ∷ holds (s_passive inf ((2, Some 0x4010000000000000, Some 0x3e112e0be826d695) ∷ []) ∷ b_batching 0x40176147ae147ae2 (2 ∷ []) ∷ p_passive 0 [] ∷ p_active 0x3fe0000000000000 (1 ∷ []) ∷ p_active 0x4012000000000000 (1 ∷ []) ∷ []) ((9, 1000, 8, 65534, 0x401a000000000000, 2) ∷ []) ∷ ran 1 [] 0x401a000000000000 5 ∷ holds (s_passive inf ((2, Some 0x4010000000000000, Some 0x401a000000000000) ∷ []) ∷ b_batching 0x40176147ae147ae2 (2 ∷ []) ∷ p0 ∷ p_active 0x3fe0000000000000 (1 ∷ []) ∷ p_active 0x4012000000000000 (1 ∷ []) ∷ []) [] ∷ ran 1 [] 0x401c000000000000 5 ∷ holds (s_passive inf ((2, Some 0x4010000000000000, Some 0x401a000000000000) ∷ []) ∷ b_batching 0x40156147ae147ae2 (2 ∷ []) ∷ p0 ∷ p_passive 0 [] ∷ p_active 0x4010000000000000 (1 ∷ []) ∷ []) [] ∷ ran 1 [] 0x401c000000000000 5 ∷ holds (s_passive inf ((2, Some 0x4010000000000000, Some 0x401a000000000000) ∷ []) ∷ b_batching 0x40156147ae147ae2 (2 ∷ []) ∷ p0 ∷ p0 ∷ p_active 0x4010000000000000 (1 ∷ []) ∷ []) [] ∷ ran 1 ((1, 1000, 8, 32768, 0x4026000000000000, 1) ∷ (1, 1000, 9, 1000, 0x4026000000000000, 1) ∷ []) 0x4026000000000000 5 ∷ holds (s_passive inf ((2, Some 0x4010000000000000, Some 0x401a000000000000) ∷ []) ∷ b_batching 0x3ff5851eb851eb88 (2 ∷ []) ∷ p0 ∷ p0 ∷ p_passive 0 [] ∷ []) ((1, 1000, 8, 32768, 0x4026000000000000, 1) ∷ (1, 1000, 9, 1000, 0x4026000000000000, 1) ∷ []) ∷ ran 0 [] 0x4026000000000000 5 ∷ holds (s_passive inf ((2, Some 0x4010000000000000, Some 0x401a000000000000) ∷ []) ∷ b_batching 0x3ff5851eb851eb88 (2 ∷ []) ∷ p0 ∷ p0 ∷ p_passive 0 [] ∷ []) ((1, 1000, 8, 32768, 0x4026000000000000, 1) ∷ (1, 1000, 9, 1000, 0x4026000000000000, 1) ∷ []) ∷ ran 0 [] 0x4026000000000000 5 ∷ holds (s_passive inf ((2, Some 0x4010000000000000, Some 0x401a000000000000) ∷ []) ∷ b_batching 0x3ff5851eb851eb88 (2 ∷ []) ∷ p0 ∷ p0 ∷ p_passive 0 [] ∷ []) ((1, 1000, 8, 32768, 0x4026000000000000, 1) ∷ (1, 1000, 9, 1000, 0x4026000000000000, 1) ∷ []) ∷ spent 1 ((8, 1000, 1, 1000, 0x4026000000000000, 2) ∷ []) 0x4026000000000000 6 ∷ [])
+    (s_passive inf ((2, Some 0x4010000000000000, Some 0x4026000000000000) ∷ (1, Some 0x4026000000000000, None) ∷ []) ∷ b_batching 0x3ff5851eb851eb88 (2 ∷ []) ∷ p_active 0x3fe6666666666666 (1 ∷ []) ∷ p0 ∷ p0 ∷ []) ((8, 1000, 1, 1000, 0x4026000000000000, 2) ∷ [])
 unfolding play
 case-200 = refl

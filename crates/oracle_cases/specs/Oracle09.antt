@@ -1,6 +1,5 @@
 -- Answers of the oracle, computed over the rules: cases 201 to 225. The number above a case is its script's (--show). Written by oracle/write_cases.py. Assumes nothing.
-use Rattle.std.specs.Prelude.{ℕ, ◌≡◌, refl, List, [], ◌∷◌}
-use Rattle.std.proofs.Math.Option.{Option, none, some}
+use Rattle.std.specs.Prelude.{ℕ, ◌≡◌, refl, List, [], ◌∷◌, Option, None, Some}
 use Rattle.rules.specs.declared.ProcessorPhase.TheVariants as working
 use Rattle.rules.specs.declared.BatcherPhase.TheVariants as batching
 use Rattle.rules.specs.Calls.{OfProcessor, OfBatcher, Mean, ParkedCount}
@@ -56,8 +55,8 @@ pub case-205 :
     []
     (job 1 3 7 ∷ steps 1 ∷ look ∷ inject 0 0 1 2 0x4028b0a3d70a3d71 0 ∷ job 1 1 2147483648 ∷ step ∷ look ∷ step ∷ [])
     ≡ seen
-    (ran 1 [] 0 0 ∷ holds (c0 ∷ c0 ∷ c0 ∷ b0 ∷ s0 ∷ []) [] ∷ ran 1 [] 0 0 ∷ holds (c0 ∷ c0 ∷ c0 ∷ b_batching 0x4010000000000000 (0 ∷ 0 ∷ []) ∷ s_passive inf ((0, none, some 0) ∷ (2147483648, some 0, none) ∷ []) ∷ []) [] ∷ ran 1 ((1, 1, 99, 2, 0x4010000000000000, 0) ∷ (1, 1, 1, 2, 0x4010000000000000, 0) ∷ (1, 1, 1, 1, 0x4010000000000000, 0) ∷ (1, 1, 99, 2, 0x4010000000000000, 0) ∷ (1, 1, 1, 2, 0x4010000000000000, 0) ∷ (1, 1, 1, 1, 0x4010000000000000, 0) ∷ []) 0x4010000000000000 0 ∷ [])
-    (c0 ∷ c0 ∷ c0 ∷ b0 ∷ s_passive inf ((0, none, some 0) ∷ (2147483648, some 0, none) ∷ []) ∷ []) ((1, 1, 99, 2, 0x4010000000000000, 0) ∷ (1, 1, 1, 2, 0x4010000000000000, 0) ∷ (1, 1, 1, 1, 0x4010000000000000, 0) ∷ (1, 1, 99, 2, 0x4010000000000000, 0) ∷ (1, 1, 1, 2, 0x4010000000000000, 0) ∷ (1, 1, 1, 1, 0x4010000000000000, 0) ∷ [])
+    (ran 1 [] 0 0 ∷ holds (c0 ∷ c0 ∷ c0 ∷ b0 ∷ s0 ∷ []) [] ∷ ran 1 [] 0 0 ∷ holds (c0 ∷ c0 ∷ c0 ∷ b_batching 0x4010000000000000 (0 ∷ 0 ∷ []) ∷ s_passive inf ((0, None, Some 0) ∷ (2147483648, Some 0, None) ∷ []) ∷ []) [] ∷ ran 1 ((1, 1, 99, 2, 0x4010000000000000, 0) ∷ (1, 1, 1, 2, 0x4010000000000000, 0) ∷ (1, 1, 1, 1, 0x4010000000000000, 0) ∷ (1, 1, 99, 2, 0x4010000000000000, 0) ∷ (1, 1, 1, 2, 0x4010000000000000, 0) ∷ (1, 1, 1, 1, 0x4010000000000000, 0) ∷ []) 0x4010000000000000 0 ∷ [])
+    (c0 ∷ c0 ∷ c0 ∷ b0 ∷ s_passive inf ((0, None, Some 0) ∷ (2147483648, Some 0, None) ∷ []) ∷ []) ((1, 1, 99, 2, 0x4010000000000000, 0) ∷ (1, 1, 1, 2, 0x4010000000000000, 0) ∷ (1, 1, 1, 1, 0x4010000000000000, 0) ∷ (1, 1, 99, 2, 0x4010000000000000, 0) ∷ (1, 1, 1, 2, 0x4010000000000000, 0) ∷ (1, 1, 1, 1, 0x4010000000000000, 0) ∷ [])
 unfolding play
 case-205 = refl
 
@@ -78,7 +77,7 @@ pub case-207 :
     (0x3fd3333333333333 ∷ 0x4010000000000000 ∷ 0x4010000000000000 ∷ 0x3fd5555555555555 ∷ 0x3fb999999999999a ∷ 0x3e112e0be826d695 ∷ [])
     (job 97 2 2 ∷ job 3 3 1 ∷ status 7 ∷ steps 0 ∷ look ∷ step ∷ look ∷ reset-messages ∷ until 0x3fb999999999999a 2 ∷ look ∷ step ∷ look ∷ step ∷ look ∷ put_in (coup 8 0 ∷ coup 4 8 ∷ proc 6 4 1 2 2 ∷ proc 3 4 1 1 2 ∷ bat 9 4 1 2 2 0x3fe6666666666666 ∷ proc 2 4 1 2 1 ∷ []) (link 4 1 8 1 ∷ link 8 3 99 1 ∷ link 8 2 8 1 ∷ link 8 4 8 1 ∷ []) (inner 4 2 2 3 1 ∷ inner 8 4 2 4 2 ∷ inner 4 9 2 98 4 ∷ into 4 2 2 1 ∷ out 4 3 1 2 ∷ inner 4 6 2 3 1 ∷ inner 8 4 2 4 3 ∷ inner 4 2 2 6 1 ∷ into 8 1 4 2 ∷ into 4 1 3 1 ∷ inner 4 9 2 9 3 ∷ inner 4 3 1 3 1 ∷ out 4 2 2 1 ∷ out 4 6 2 1 ∷ into 8 1 4 2 ∷ []) ∷ step ∷ look ∷ job 8 1 3 ∷ step ∷ look ∷ steps 3 ∷ look ∷ until 0x4034beb851eb851f 1 ∷ [])
     ≡ seen
-    (says (Mean none) ∷ ran 0 [] 0 0 ∷ holds (p0 ∷ b0 ∷ c0 ∷ b0 ∷ s0 ∷ s0 ∷ b0 ∷ []) ((0, 0, 97, 2, 0, 2) ∷ (0, 0, 3, 3, 0, 1) ∷ []) ∷ ran 1 [] 0 0 ∷ holds (p0 ∷ b0 ∷ c0 ∷ b_batching 0x3fb999999999999a (1 ∷ []) ∷ s0 ∷ s0 ∷ b0 ∷ []) [] ∷ reached 1 [] 0x3fb999999999999a 0 ∷ holds (p0 ∷ b0 ∷ c0 ∷ b0 ∷ s0 ∷ s0 ∷ b0 ∷ []) ((3, 2, 6, 4, 0x3fb999999999999a, 1) ∷ []) ∷ ran 1 [] 0x3fb999999999999a 0 ∷ holds (p0 ∷ b_batching 0x4028b0a3d70a3d71 (1 ∷ []) ∷ c0 ∷ b0 ∷ s0 ∷ s0 ∷ b0 ∷ []) [] ∷ ran 1 ((6, 2, 8, 3, 0x4028e3d70a3d70a4, 1) ∷ []) 0x4028e3d70a3d70a4 0 ∷ holds (p0 ∷ b0 ∷ c0 ∷ b0 ∷ s0 ∷ s0 ∷ b0 ∷ []) ((6, 2, 8, 3, 0x4028e3d70a3d70a4, 1) ∷ []) ∷ ran 1 [] 0x4028e3d70a3d70a4 0 ∷ holds (c0 ∷ c0 ∷ p0 ∷ p0 ∷ b0 ∷ p0 ∷ []) [] ∷ ran 1 [] 0x4028e3d70a3d70a4 1 ∷ holds (c0 ∷ c0 ∷ p0 ∷ p0 ∷ b0 ∷ p_active 0x3fd3333333333333 (3 ∷ []) ∷ []) [] ∷ ran 3 [] 0x4030beb851eb851f 3 ∷ holds (parks ((4, 2, 3) ∷ (4, 3, 3) ∷ []) ∷ parks ((3, 1, 3) ∷ (3, 1, 3) ∷ []) ∷ p_passive 0 [] ∷ p_passive 0 [] ∷ b0 ∷ p0 ∷ []) [] ∷ spent 1 [] 0x4030beb851eb851f 5 ∷ [])
+    (says (Mean None) ∷ ran 0 [] 0 0 ∷ holds (p0 ∷ b0 ∷ c0 ∷ b0 ∷ s0 ∷ s0 ∷ b0 ∷ []) ((0, 0, 97, 2, 0, 2) ∷ (0, 0, 3, 3, 0, 1) ∷ []) ∷ ran 1 [] 0 0 ∷ holds (p0 ∷ b0 ∷ c0 ∷ b_batching 0x3fb999999999999a (1 ∷ []) ∷ s0 ∷ s0 ∷ b0 ∷ []) [] ∷ reached 1 [] 0x3fb999999999999a 0 ∷ holds (p0 ∷ b0 ∷ c0 ∷ b0 ∷ s0 ∷ s0 ∷ b0 ∷ []) ((3, 2, 6, 4, 0x3fb999999999999a, 1) ∷ []) ∷ ran 1 [] 0x3fb999999999999a 0 ∷ holds (p0 ∷ b_batching 0x4028b0a3d70a3d71 (1 ∷ []) ∷ c0 ∷ b0 ∷ s0 ∷ s0 ∷ b0 ∷ []) [] ∷ ran 1 ((6, 2, 8, 3, 0x4028e3d70a3d70a4, 1) ∷ []) 0x4028e3d70a3d70a4 0 ∷ holds (p0 ∷ b0 ∷ c0 ∷ b0 ∷ s0 ∷ s0 ∷ b0 ∷ []) ((6, 2, 8, 3, 0x4028e3d70a3d70a4, 1) ∷ []) ∷ ran 1 [] 0x4028e3d70a3d70a4 0 ∷ holds (c0 ∷ c0 ∷ p0 ∷ p0 ∷ b0 ∷ p0 ∷ []) [] ∷ ran 1 [] 0x4028e3d70a3d70a4 1 ∷ holds (c0 ∷ c0 ∷ p0 ∷ p0 ∷ b0 ∷ p_active 0x3fd3333333333333 (3 ∷ []) ∷ []) [] ∷ ran 3 [] 0x4030beb851eb851f 3 ∷ holds (parks ((4, 2, 3) ∷ (4, 3, 3) ∷ []) ∷ parks ((3, 1, 3) ∷ (3, 1, 3) ∷ []) ∷ p_passive 0 [] ∷ p_passive 0 [] ∷ b0 ∷ p0 ∷ []) [] ∷ spent 1 [] 0x4030beb851eb851f 5 ∷ [])
     (c0 ∷ c0 ∷ p0 ∷ p_active 0x3fb999999999999a (3 ∷ 3 ∷ []) ∷ b0 ∷ p_active 0x3fd5555555555555 (3 ∷ []) ∷ []) []
 unfolding play
 case-207 = refl
@@ -89,8 +88,8 @@ pub case-208 :
     (0x3fd3333333333333 ∷ [])
     (job 5 4 1 ∷ job 4 3 1 ∷ inject 0 0 4 4 0x4004000000000000 1 ∷ job 4 4 2 ∷ steps 3 ∷ look ∷ job 5 1 1 ∷ step ∷ look ∷ until 0x3fc999999999999a 501 ∷ look ∷ job 5 3 1 ∷ step ∷ look ∷ steps 2 ∷ look ∷ job 5 4 1 ∷ reset-global-time ∷ step ∷ look ∷ step ∷ look ∷ until 0x401c666666666666 1 ∷ [])
     ≡ seen
-    (ran 3 ((5, 1, 99, 2, 0x3fb999999999999a, 1) ∷ []) 0x3fb999999999999a 0 ∷ holds (s_passive inf ((1, none, some 0) ∷ (2, none, some 0) ∷ []) ∷ b0 ∷ b0 ∷ []) [] ∷ ran 1 [] 0x3fb999999999999a 0 ∷ holds (s_passive inf ((1, none, some 0) ∷ (2, none, some 0) ∷ []) ∷ b_batching 0x3fb999999999999a (1 ∷ []) ∷ b0 ∷ []) [] ∷ reached 1 [] 0x3fc999999999999a 0 ∷ holds (s_passive inf ((1, none, some 0) ∷ (2, none, some 0) ∷ []) ∷ b0 ∷ b0 ∷ []) ((5, 1, 99, 2, 0x3fc999999999999a, 1) ∷ []) ∷ ran 1 [] 0x3fc999999999999a 0 ∷ holds (s_passive inf ((1, none, some 0) ∷ (2, none, some 0) ∷ []) ∷ b_batching 0x3fb999999999999a (1 ∷ []) ∷ b0 ∷ []) [] ∷ ran 2 ((5, 1, 99, 2, 0x3fd3333333333334, 1) ∷ []) 0x3fd3333333333334 0 ∷ holds (s_passive inf ((1, none, some 0) ∷ (2, none, some 0) ∷ []) ∷ b0 ∷ b0 ∷ []) [] ∷ ran 1 [] 0 0 ∷ holds (s_passive inf ((1, none, some 0) ∷ (2, none, some 0) ∷ []) ∷ b_batching 0x3fb999999999999a (1 ∷ []) ∷ b0 ∷ []) [] ∷ ran 1 ((5, 1, 99, 2, 0x3fb999999999999a, 1) ∷ []) 0x3fb999999999999a 0 ∷ holds (s_passive inf ((1, none, some 0) ∷ (2, none, some 0) ∷ []) ∷ b0 ∷ b0 ∷ []) ((5, 1, 99, 2, 0x3fb999999999999a, 1) ∷ []) ∷ spent 1 [] 0x3fb999999999999a 0 ∷ [])
-    (s_passive inf ((1, none, some 0) ∷ (2, none, some 0) ∷ []) ∷ b0 ∷ b0 ∷ []) []
+    (ran 3 ((5, 1, 99, 2, 0x3fb999999999999a, 1) ∷ []) 0x3fb999999999999a 0 ∷ holds (s_passive inf ((1, None, Some 0) ∷ (2, None, Some 0) ∷ []) ∷ b0 ∷ b0 ∷ []) [] ∷ ran 1 [] 0x3fb999999999999a 0 ∷ holds (s_passive inf ((1, None, Some 0) ∷ (2, None, Some 0) ∷ []) ∷ b_batching 0x3fb999999999999a (1 ∷ []) ∷ b0 ∷ []) [] ∷ reached 1 [] 0x3fc999999999999a 0 ∷ holds (s_passive inf ((1, None, Some 0) ∷ (2, None, Some 0) ∷ []) ∷ b0 ∷ b0 ∷ []) ((5, 1, 99, 2, 0x3fc999999999999a, 1) ∷ []) ∷ ran 1 [] 0x3fc999999999999a 0 ∷ holds (s_passive inf ((1, None, Some 0) ∷ (2, None, Some 0) ∷ []) ∷ b_batching 0x3fb999999999999a (1 ∷ []) ∷ b0 ∷ []) [] ∷ ran 2 ((5, 1, 99, 2, 0x3fd3333333333334, 1) ∷ []) 0x3fd3333333333334 0 ∷ holds (s_passive inf ((1, None, Some 0) ∷ (2, None, Some 0) ∷ []) ∷ b0 ∷ b0 ∷ []) [] ∷ ran 1 [] 0 0 ∷ holds (s_passive inf ((1, None, Some 0) ∷ (2, None, Some 0) ∷ []) ∷ b_batching 0x3fb999999999999a (1 ∷ []) ∷ b0 ∷ []) [] ∷ ran 1 ((5, 1, 99, 2, 0x3fb999999999999a, 1) ∷ []) 0x3fb999999999999a 0 ∷ holds (s_passive inf ((1, None, Some 0) ∷ (2, None, Some 0) ∷ []) ∷ b0 ∷ b0 ∷ []) ((5, 1, 99, 2, 0x3fb999999999999a, 1) ∷ []) ∷ spent 1 [] 0x3fb999999999999a 0 ∷ [])
+    (s_passive inf ((1, None, Some 0) ∷ (2, None, Some 0) ∷ []) ∷ b0 ∷ b0 ∷ []) []
 unfolding play
 case-208 = refl
 
@@ -100,8 +99,8 @@ pub case-209 :
     (0x3fb999999999999a ∷ 0 ∷ [])
     (job 4 256 1 ∷ until 0x4024000000000000 1 ∷ look ∷ job 1 256 1 ∷ job 7 256 1 ∷ steps 1 ∷ look ∷ inject 65535 3 7 256 0 1 ∷ until 0x401c000000000000 3 ∷ look ∷ job 97 65535 3 ∷ job 4 1000 1 ∷ step ∷ look ∷ job 1 256 3 ∷ step ∷ look ∷ job 4 256 1 ∷ job 4 256 1 ∷ job 1 256 3 ∷ job 4 65534 1 ∷ step ∷ look ∷ step ∷ [])
     ≡ seen
-    (spent 1 [] 0 0 ∷ holds (c0 ∷ p0 ∷ c0 ∷ c0 ∷ c0 ∷ s_passive inf ((1, none, some 0) ∷ []) ∷ []) [] ∷ ran 1 [] 0 1 ∷ holds (c0 ∷ p_active 0x3fb999999999999a (1 ∷ []) ∷ c0 ∷ c0 ∷ c0 ∷ s_passive inf ((1, none, some 0) ∷ []) ∷ []) [] ∷ spent 3 ((7, 256, 4, 256, 0x3fb999999999999a, 1) ∷ []) 0x3fb999999999999a 1 ∷ holds (c0 ∷ p0 ∷ c0 ∷ c0 ∷ c0 ∷ s_passive inf ((1, none, some 0x3fb999999999999a) ∷ []) ∷ []) [] ∷ ran 1 [] 0x3fb999999999999a 1 ∷ holds (c0 ∷ p0 ∷ c0 ∷ c0 ∷ c0 ∷ s_passive inf ((1, some 0x3fb999999999999a, some 0x3fb999999999999a) ∷ []) ∷ []) [] ∷ ran 1 [] 0x3fb999999999999a 1 ∷ holds (c0 ∷ p0 ∷ c0 ∷ c0 ∷ c0 ∷ s_passive inf ((1, some 0x3fb999999999999a, some 0x3fb999999999999a) ∷ []) ∷ []) [] ∷ ran 1 ((4, 256, 4, 17, 0x3fb999999999999a, 1) ∷ (4, 256, 99, 65535, 0x3fb999999999999a, 1) ∷ []) 0x3fb999999999999a 1 ∷ holds (c0 ∷ p0 ∷ c0 ∷ c0 ∷ c0 ∷ s_passive inf ((1, some 0x3fb999999999999a, some 0x3fb999999999999a) ∷ []) ∷ []) ((4, 256, 4, 17, 0x3fb999999999999a, 1) ∷ (4, 256, 99, 65535, 0x3fb999999999999a, 1) ∷ []) ∷ stopped 5 0 [] 0x3fb999999999999a 1 ∷ [])
-    (c0 ∷ p0 ∷ c0 ∷ c0 ∷ c0 ∷ s_passive inf ((1, some 0x3fb999999999999a, some 0x3fb999999999999a) ∷ []) ∷ []) ((4, 256, 4, 17, 0x3fb999999999999a, 1) ∷ (4, 256, 99, 65535, 0x3fb999999999999a, 1) ∷ [])
+    (spent 1 [] 0 0 ∷ holds (c0 ∷ p0 ∷ c0 ∷ c0 ∷ c0 ∷ s_passive inf ((1, None, Some 0) ∷ []) ∷ []) [] ∷ ran 1 [] 0 1 ∷ holds (c0 ∷ p_active 0x3fb999999999999a (1 ∷ []) ∷ c0 ∷ c0 ∷ c0 ∷ s_passive inf ((1, None, Some 0) ∷ []) ∷ []) [] ∷ spent 3 ((7, 256, 4, 256, 0x3fb999999999999a, 1) ∷ []) 0x3fb999999999999a 1 ∷ holds (c0 ∷ p0 ∷ c0 ∷ c0 ∷ c0 ∷ s_passive inf ((1, None, Some 0x3fb999999999999a) ∷ []) ∷ []) [] ∷ ran 1 [] 0x3fb999999999999a 1 ∷ holds (c0 ∷ p0 ∷ c0 ∷ c0 ∷ c0 ∷ s_passive inf ((1, Some 0x3fb999999999999a, Some 0x3fb999999999999a) ∷ []) ∷ []) [] ∷ ran 1 [] 0x3fb999999999999a 1 ∷ holds (c0 ∷ p0 ∷ c0 ∷ c0 ∷ c0 ∷ s_passive inf ((1, Some 0x3fb999999999999a, Some 0x3fb999999999999a) ∷ []) ∷ []) [] ∷ ran 1 ((4, 256, 4, 17, 0x3fb999999999999a, 1) ∷ (4, 256, 99, 65535, 0x3fb999999999999a, 1) ∷ []) 0x3fb999999999999a 1 ∷ holds (c0 ∷ p0 ∷ c0 ∷ c0 ∷ c0 ∷ s_passive inf ((1, Some 0x3fb999999999999a, Some 0x3fb999999999999a) ∷ []) ∷ []) ((4, 256, 4, 17, 0x3fb999999999999a, 1) ∷ (4, 256, 99, 65535, 0x3fb999999999999a, 1) ∷ []) ∷ stopped 5 0 [] 0x3fb999999999999a 1 ∷ [])
+    (c0 ∷ p0 ∷ c0 ∷ c0 ∷ c0 ∷ s_passive inf ((1, Some 0x3fb999999999999a, Some 0x3fb999999999999a) ∷ []) ∷ []) ((4, 256, 4, 17, 0x3fb999999999999a, 1) ∷ (4, 256, 99, 65535, 0x3fb999999999999a, 1) ∷ [])
 unfolding play
 case-209 = refl
 
@@ -133,8 +132,8 @@ pub case-212 :
     (0x4004000000000000 ∷ 0x401c000000000000 ∷ [])
     (job 3 3 2 ∷ until 0 1 ∷ look ∷ job 8 1 3 ∷ step ∷ look ∷ steps 2 ∷ [])
     ≡ seen
-    (reached 1 [] 0 0 ∷ holds (b0 ∷ p0 ∷ p0 ∷ s0 ∷ s_passive inf ((2, some 0, none) ∷ []) ∷ p0 ∷ []) [] ∷ ran 1 [] 0 1 ∷ holds (b0 ∷ p0 ∷ p_active 0x4004000000000000 (3 ∷ []) ∷ s0 ∷ s_passive inf ((2, some 0, none) ∷ []) ∷ p0 ∷ []) [] ∷ ran 2 ((8, 1, 7, 1, 0x4004000000000000, 3) ∷ []) 0x4004000000000000 2 ∷ [])
-    (b0 ∷ p_active 0x401c000000000000 (3 ∷ []) ∷ p0 ∷ s0 ∷ s_passive inf ((2, some 0, none) ∷ []) ∷ p0 ∷ []) []
+    (reached 1 [] 0 0 ∷ holds (b0 ∷ p0 ∷ p0 ∷ s0 ∷ s_passive inf ((2, Some 0, None) ∷ []) ∷ p0 ∷ []) [] ∷ ran 1 [] 0 1 ∷ holds (b0 ∷ p0 ∷ p_active 0x4004000000000000 (3 ∷ []) ∷ s0 ∷ s_passive inf ((2, Some 0, None) ∷ []) ∷ p0 ∷ []) [] ∷ ran 2 ((8, 1, 7, 1, 0x4004000000000000, 3) ∷ []) 0x4004000000000000 2 ∷ [])
+    (b0 ∷ p_active 0x401c000000000000 (3 ∷ []) ∷ p0 ∷ s0 ∷ s_passive inf ((2, Some 0, None) ∷ []) ∷ p0 ∷ []) []
 unfolding play
 case-212 = refl
 
@@ -144,8 +143,8 @@ pub case-213 :
     []
     (job 32768 1 3 ∷ job 32768 4 3 ∷ job 32768 1 3 ∷ job 257 1 3 ∷ job 257 1 2 ∷ status 4096 ∷ until 0 501 ∷ look ∷ inject 65535 3 32768 4 0 2 ∷ step ∷ look ∷ job 257 1 3 ∷ until 0x3ff0000000000000 1 ∷ look ∷ inject 0 0 257 4 0x4010000000000000 2 ∷ until 0 501 ∷ look ∷ job 32768 1 2 ∷ step ∷ [])
     ≡ seen
-    (refuses 4 ∷ reached 1 [] 0 0 ∷ holds (s_passive inf ((3, some 0, some 0) ∷ []) ∷ c0 ∷ p0 ∷ p0 ∷ s_passive inf ((3, none, some 0) ∷ (2, none, some 0) ∷ []) ∷ []) [] ∷ ran 1 [] 0 0 ∷ holds (s_passive inf ((3, some 0, some 0) ∷ (2, none, some 0) ∷ []) ∷ c0 ∷ p0 ∷ p0 ∷ s_passive inf ((3, none, some 0) ∷ (2, none, some 0) ∷ []) ∷ []) [] ∷ spent 1 [] 0 0 ∷ holds (s_passive inf ((3, some 0, some 0) ∷ (2, none, some 0) ∷ []) ∷ c0 ∷ p0 ∷ p0 ∷ s_passive inf ((3, none, some 0) ∷ (2, none, some 0) ∷ []) ∷ []) [] ∷ reached 1 [] 0 0 ∷ holds (s_passive inf ((3, some 0, some 0) ∷ (2, none, some 0) ∷ []) ∷ c0 ∷ p0 ∷ p0 ∷ s_passive inf ((3, none, some 0) ∷ (2, none, some 0) ∷ []) ∷ []) [] ∷ ran 1 [] 0 0 ∷ [])
-    (s_passive inf ((3, some 0, some 0) ∷ (2, some 0, some 0) ∷ []) ∷ c0 ∷ p0 ∷ p0 ∷ s_passive inf ((3, none, some 0) ∷ (2, none, some 0) ∷ []) ∷ []) []
+    (refuses 4 ∷ reached 1 [] 0 0 ∷ holds (s_passive inf ((3, Some 0, Some 0) ∷ []) ∷ c0 ∷ p0 ∷ p0 ∷ s_passive inf ((3, None, Some 0) ∷ (2, None, Some 0) ∷ []) ∷ []) [] ∷ ran 1 [] 0 0 ∷ holds (s_passive inf ((3, Some 0, Some 0) ∷ (2, None, Some 0) ∷ []) ∷ c0 ∷ p0 ∷ p0 ∷ s_passive inf ((3, None, Some 0) ∷ (2, None, Some 0) ∷ []) ∷ []) [] ∷ spent 1 [] 0 0 ∷ holds (s_passive inf ((3, Some 0, Some 0) ∷ (2, None, Some 0) ∷ []) ∷ c0 ∷ p0 ∷ p0 ∷ s_passive inf ((3, None, Some 0) ∷ (2, None, Some 0) ∷ []) ∷ []) [] ∷ reached 1 [] 0 0 ∷ holds (s_passive inf ((3, Some 0, Some 0) ∷ (2, None, Some 0) ∷ []) ∷ c0 ∷ p0 ∷ p0 ∷ s_passive inf ((3, None, Some 0) ∷ (2, None, Some 0) ∷ []) ∷ []) [] ∷ ran 1 [] 0 0 ∷ [])
+    (s_passive inf ((3, Some 0, Some 0) ∷ (2, Some 0, Some 0) ∷ []) ∷ c0 ∷ p0 ∷ p0 ∷ s_passive inf ((3, None, Some 0) ∷ (2, None, Some 0) ∷ []) ∷ []) []
 unfolding play
 case-213 = refl
 
@@ -166,8 +165,8 @@ pub case-215 :
     (0x3ff0000000000000 ∷ 0 ∷ 0x3fd3333333333333 ∷ 0x3ff0000000000000 ∷ [])
     (job 5 1 2 ∷ step ∷ look ∷ status 6 ∷ step ∷ look ∷ step ∷ look ∷ until 0x4011333333333333 1 ∷ [])
     ≡ seen
-    (ran 1 [] 0 2 ∷ holds (c0 ∷ parks ((7, 255, 2) ∷ (6, 1, 2) ∷ (3, 1, 2) ∷ []) ∷ p0 ∷ p_passive 0 (2 ∷ []) ∷ p_active 0x3ff0000000000000 (2 ∷ 2 ∷ []) ∷ s0 ∷ []) [] ∷ refuses 4 ∷ ran 1 [] 0 4 ∷ holds (c0 ∷ c0 ∷ p_active 0x3fd3333333333333 (2 ∷ []) ∷ p_active 0x3ff0000000000000 (2 ∷ []) ∷ p_active 0x3ff0000000000000 (2 ∷ 2 ∷ 2 ∷ []) ∷ s_passive inf ((2, none, some 0) ∷ []) ∷ []) [] ∷ ran 1 ((5, 0, 99, 0, 0x3fd3333333333333, 2) ∷ (5, 0, 5, 1, 0x3fd3333333333333, 2) ∷ []) 0x3fd3333333333333 4 ∷ holds (parks ((9, 1, 2) ∷ []) ∷ parks ((7, 255, 2) ∷ (2, 1, 2) ∷ (2, 1, 2) ∷ []) ∷ p_passive 0 [] ∷ p_active 0x3fe6666666666666 (2 ∷ []) ∷ p_active 0x3fe6666666666666 (2 ∷ 2 ∷ 2 ∷ []) ∷ s_passive inf ((2, none, some 0) ∷ []) ∷ []) ((5, 0, 99, 0, 0x3fd3333333333333, 2) ∷ (5, 0, 5, 1, 0x3fd3333333333333, 2) ∷ []) ∷ spent 1 [] 0x3fd3333333333333 4 ∷ [])
-    (c0 ∷ c0 ∷ p0 ∷ p_active 0x3fe6666666666666 (2 ∷ 2 ∷ 2 ∷ []) ∷ p_active 0x3fe6666666666666 (2 ∷ 2 ∷ 2 ∷ 2 ∷ 2 ∷ 2 ∷ []) ∷ s_passive inf ((2, none, some 0x3fd3333333333333) ∷ []) ∷ []) []
+    (ran 1 [] 0 2 ∷ holds (c0 ∷ parks ((7, 255, 2) ∷ (6, 1, 2) ∷ (3, 1, 2) ∷ []) ∷ p0 ∷ p_passive 0 (2 ∷ []) ∷ p_active 0x3ff0000000000000 (2 ∷ 2 ∷ []) ∷ s0 ∷ []) [] ∷ refuses 4 ∷ ran 1 [] 0 4 ∷ holds (c0 ∷ c0 ∷ p_active 0x3fd3333333333333 (2 ∷ []) ∷ p_active 0x3ff0000000000000 (2 ∷ []) ∷ p_active 0x3ff0000000000000 (2 ∷ 2 ∷ 2 ∷ []) ∷ s_passive inf ((2, None, Some 0) ∷ []) ∷ []) [] ∷ ran 1 ((5, 0, 99, 0, 0x3fd3333333333333, 2) ∷ (5, 0, 5, 1, 0x3fd3333333333333, 2) ∷ []) 0x3fd3333333333333 4 ∷ holds (parks ((9, 1, 2) ∷ []) ∷ parks ((7, 255, 2) ∷ (2, 1, 2) ∷ (2, 1, 2) ∷ []) ∷ p_passive 0 [] ∷ p_active 0x3fe6666666666666 (2 ∷ []) ∷ p_active 0x3fe6666666666666 (2 ∷ 2 ∷ 2 ∷ []) ∷ s_passive inf ((2, None, Some 0) ∷ []) ∷ []) ((5, 0, 99, 0, 0x3fd3333333333333, 2) ∷ (5, 0, 5, 1, 0x3fd3333333333333, 2) ∷ []) ∷ spent 1 [] 0x3fd3333333333333 4 ∷ [])
+    (c0 ∷ c0 ∷ p0 ∷ p_active 0x3fe6666666666666 (2 ∷ 2 ∷ 2 ∷ []) ∷ p_active 0x3fe6666666666666 (2 ∷ 2 ∷ 2 ∷ 2 ∷ 2 ∷ 2 ∷ []) ∷ s_passive inf ((2, None, Some 0x3fd3333333333333) ∷ []) ∷ []) []
 unfolding play
 case-215 = refl
 
@@ -221,8 +220,8 @@ pub case-220 :
     (0x3ff0000000000000 ∷ [])
     (job 2 1 3 ∷ inject 5 3 257 2 0 2 ∷ job 256 2 2 ∷ steps 2 ∷ look ∷ steps 0 ∷ look ∷ step ∷ look ∷ job 4096 2 1 ∷ inject 65535 3 4096 1 0 1 ∷ until 0x4024924924924925 2 ∷ [])
     ≡ seen
-    (ran 2 ((256, 2, 1, 3, 0x3fd2492492492492, 2) ∷ []) 0x3fd2492492492492 1 ∷ holds (p0 ∷ p_active 0x3fe6db6db6db6db7 (3 ∷ []) ∷ s0 ∷ b0 ∷ b0 ∷ b_batching 0x400db6db6db6db6e (2 ∷ []) ∷ s0 ∷ []) ((256, 2, 1, 3, 0x3fd2492492492492, 2) ∷ []) ∷ ran 0 [] 0x3fd2492492492492 1 ∷ holds (p0 ∷ p_active 0x3fe6db6db6db6db7 (3 ∷ []) ∷ s0 ∷ b0 ∷ b0 ∷ b_batching 0x400db6db6db6db6e (2 ∷ []) ∷ s0 ∷ []) ((256, 2, 1, 3, 0x3fd2492492492492, 2) ∷ []) ∷ ran 1 [] 0x3fd2492492492492 1 ∷ holds (p0 ∷ p_active 0x3fe6db6db6db6db7 (3 ∷ []) ∷ s_passive inf ((2, some 0x3fd2492492492492, none) ∷ []) ∷ b0 ∷ b0 ∷ b_batching 0x400db6db6db6db6e (2 ∷ []) ∷ s0 ∷ []) [] ∷ spent 2 ((2, 1, 4096, 2, 0x3ff0000000000000, 3) ∷ (2, 1, 1, 2, 0x3ff0000000000000, 3) ∷ []) 0x3ff0000000000000 1 ∷ [])
-    (p0 ∷ p_passive 0 [] ∷ s_passive inf ((2, some 0x3fd2492492492492, none) ∷ []) ∷ b0 ∷ b_batching 0x3fd2492492492492 (1 ∷ 1 ∷ []) ∷ b_batching 0x4008000000000000 (2 ∷ []) ∷ s0 ∷ []) ((2, 1, 4096, 2, 0x3ff0000000000000, 3) ∷ (2, 1, 1, 2, 0x3ff0000000000000, 3) ∷ [])
+    (ran 2 ((256, 2, 1, 3, 0x3fd2492492492492, 2) ∷ []) 0x3fd2492492492492 1 ∷ holds (p0 ∷ p_active 0x3fe6db6db6db6db7 (3 ∷ []) ∷ s0 ∷ b0 ∷ b0 ∷ b_batching 0x400db6db6db6db6e (2 ∷ []) ∷ s0 ∷ []) ((256, 2, 1, 3, 0x3fd2492492492492, 2) ∷ []) ∷ ran 0 [] 0x3fd2492492492492 1 ∷ holds (p0 ∷ p_active 0x3fe6db6db6db6db7 (3 ∷ []) ∷ s0 ∷ b0 ∷ b0 ∷ b_batching 0x400db6db6db6db6e (2 ∷ []) ∷ s0 ∷ []) ((256, 2, 1, 3, 0x3fd2492492492492, 2) ∷ []) ∷ ran 1 [] 0x3fd2492492492492 1 ∷ holds (p0 ∷ p_active 0x3fe6db6db6db6db7 (3 ∷ []) ∷ s_passive inf ((2, Some 0x3fd2492492492492, None) ∷ []) ∷ b0 ∷ b0 ∷ b_batching 0x400db6db6db6db6e (2 ∷ []) ∷ s0 ∷ []) [] ∷ spent 2 ((2, 1, 4096, 2, 0x3ff0000000000000, 3) ∷ (2, 1, 1, 2, 0x3ff0000000000000, 3) ∷ []) 0x3ff0000000000000 1 ∷ [])
+    (p0 ∷ p_passive 0 [] ∷ s_passive inf ((2, Some 0x3fd2492492492492, None) ∷ []) ∷ b0 ∷ b_batching 0x3fd2492492492492 (1 ∷ 1 ∷ []) ∷ b_batching 0x4008000000000000 (2 ∷ []) ∷ s0 ∷ []) ((2, 1, 4096, 2, 0x3ff0000000000000, 3) ∷ (2, 1, 1, 2, 0x3ff0000000000000, 3) ∷ [])
 unfolding play
 case-220 = refl
 
@@ -232,8 +231,8 @@ pub case-221 :
     (0 ∷ [])
     (inject 65535 3 3 1 0 3 ∷ job 3 2 2 ∷ job 5 3 2 ∷ job 3 2 1 ∷ step ∷ look ∷ step ∷ look ∷ steps 4 ∷ [])
     ≡ seen
-    (ran 1 [] 0 0 ∷ holds (p0 ∷ b0 ∷ s_passive inf ((2, none, some 0) ∷ []) ∷ b_batching 0x4004000000000000 (3 ∷ 2 ∷ 1 ∷ []) ∷ b0 ∷ b0 ∷ []) [] ∷ ran 1 ((3, 2, 2, 4, 0x4004000000000000, 3) ∷ (3, 2, 2, 4, 0x4004000000000000, 2) ∷ (3, 2, 2, 4, 0x4004000000000000, 1) ∷ []) 0x4004000000000000 0 ∷ holds (p0 ∷ b0 ∷ s_passive inf ((2, none, some 0) ∷ []) ∷ b0 ∷ b0 ∷ b0 ∷ []) ((3, 2, 2, 4, 0x4004000000000000, 3) ∷ (3, 2, 2, 4, 0x4004000000000000, 2) ∷ (3, 2, 2, 4, 0x4004000000000000, 1) ∷ []) ∷ ran 4 ((2, 1, 2, 4, 0x4006492492492492, 3) ∷ (2, 1, 5, 1, 0x4006492492492492, 3) ∷ (2, 1, 2, 4, 0x4006492492492492, 2) ∷ (2, 1, 5, 1, 0x4006492492492492, 2) ∷ (2, 1, 2, 4, 0x4006492492492492, 1) ∷ (2, 1, 5, 1, 0x4006492492492492, 1) ∷ (2, 1, 2, 4, 0x4008924924924924, 3) ∷ (2, 1, 5, 1, 0x4008924924924924, 3) ∷ (2, 1, 2, 4, 0x4008924924924924, 2) ∷ (2, 1, 5, 1, 0x4008924924924924, 2) ∷ (2, 1, 2, 4, 0x4008924924924924, 1) ∷ (2, 1, 5, 1, 0x4008924924924924, 1) ∷ []) 0x4008924924924924 0 ∷ [])
-    (p0 ∷ b0 ∷ s_passive inf ((2, none, some 0) ∷ []) ∷ b0 ∷ b0 ∷ b0 ∷ []) ((2, 1, 2, 4, 0x4008924924924924, 3) ∷ (2, 1, 5, 1, 0x4008924924924924, 3) ∷ (2, 1, 2, 4, 0x4008924924924924, 2) ∷ (2, 1, 5, 1, 0x4008924924924924, 2) ∷ (2, 1, 2, 4, 0x4008924924924924, 1) ∷ (2, 1, 5, 1, 0x4008924924924924, 1) ∷ [])
+    (ran 1 [] 0 0 ∷ holds (p0 ∷ b0 ∷ s_passive inf ((2, None, Some 0) ∷ []) ∷ b_batching 0x4004000000000000 (3 ∷ 2 ∷ 1 ∷ []) ∷ b0 ∷ b0 ∷ []) [] ∷ ran 1 ((3, 2, 2, 4, 0x4004000000000000, 3) ∷ (3, 2, 2, 4, 0x4004000000000000, 2) ∷ (3, 2, 2, 4, 0x4004000000000000, 1) ∷ []) 0x4004000000000000 0 ∷ holds (p0 ∷ b0 ∷ s_passive inf ((2, None, Some 0) ∷ []) ∷ b0 ∷ b0 ∷ b0 ∷ []) ((3, 2, 2, 4, 0x4004000000000000, 3) ∷ (3, 2, 2, 4, 0x4004000000000000, 2) ∷ (3, 2, 2, 4, 0x4004000000000000, 1) ∷ []) ∷ ran 4 ((2, 1, 2, 4, 0x4006492492492492, 3) ∷ (2, 1, 5, 1, 0x4006492492492492, 3) ∷ (2, 1, 2, 4, 0x4006492492492492, 2) ∷ (2, 1, 5, 1, 0x4006492492492492, 2) ∷ (2, 1, 2, 4, 0x4006492492492492, 1) ∷ (2, 1, 5, 1, 0x4006492492492492, 1) ∷ (2, 1, 2, 4, 0x4008924924924924, 3) ∷ (2, 1, 5, 1, 0x4008924924924924, 3) ∷ (2, 1, 2, 4, 0x4008924924924924, 2) ∷ (2, 1, 5, 1, 0x4008924924924924, 2) ∷ (2, 1, 2, 4, 0x4008924924924924, 1) ∷ (2, 1, 5, 1, 0x4008924924924924, 1) ∷ []) 0x4008924924924924 0 ∷ [])
+    (p0 ∷ b0 ∷ s_passive inf ((2, None, Some 0) ∷ []) ∷ b0 ∷ b0 ∷ b0 ∷ []) ((2, 1, 2, 4, 0x4008924924924924, 3) ∷ (2, 1, 5, 1, 0x4008924924924924, 3) ∷ (2, 1, 2, 4, 0x4008924924924924, 2) ∷ (2, 1, 5, 1, 0x4008924924924924, 2) ∷ (2, 1, 2, 4, 0x4008924924924924, 1) ∷ (2, 1, 5, 1, 0x4008924924924924, 1) ∷ [])
 unfolding play
 case-221 = refl
 
@@ -254,8 +253,8 @@ pub case-223 :
     (0x3ff0000000000000 ∷ 0x4010000000000000 ∷ [])
     (job 7 2 1 ∷ step ∷ look ∷ steps 1 ∷ look ∷ job 1 1 2 ∷ job 7 4 1 ∷ step ∷ look ∷ until 0x4004000000000000 1 ∷ [])
     ≡ seen
-    (ran 1 ((7, 2, 9, 2, 0, 1) ∷ (7, 2, 9, 1, 0, 1) ∷ (7, 2, 9, 2, 0, 1) ∷ []) 0 0 ∷ holds (b0 ∷ p0 ∷ s0 ∷ []) ((7, 2, 9, 2, 0, 1) ∷ (7, 2, 9, 1, 0, 1) ∷ (7, 2, 9, 2, 0, 1) ∷ []) ∷ ran 1 [] 0 0 ∷ holds (b0 ∷ p0 ∷ s_passive inf ((1, some 0, some 0) ∷ []) ∷ []) [] ∷ ran 1 ((7, 2, 9, 2, 0, 1) ∷ (7, 2, 9, 1, 0, 1) ∷ (7, 2, 9, 2, 0, 1) ∷ []) 0 1 ∷ holds (b0 ∷ p_active 0x3ff0000000000000 (2 ∷ []) ∷ s_passive inf ((1, some 0, some 0) ∷ []) ∷ []) ((7, 2, 9, 2, 0, 1) ∷ (7, 2, 9, 1, 0, 1) ∷ (7, 2, 9, 2, 0, 1) ∷ []) ∷ spent 1 [] 0 1 ∷ [])
-    (b0 ∷ p_active 0x3ff0000000000000 (2 ∷ []) ∷ s_passive inf ((1, some 0, some 0) ∷ []) ∷ []) []
+    (ran 1 ((7, 2, 9, 2, 0, 1) ∷ (7, 2, 9, 1, 0, 1) ∷ (7, 2, 9, 2, 0, 1) ∷ []) 0 0 ∷ holds (b0 ∷ p0 ∷ s0 ∷ []) ((7, 2, 9, 2, 0, 1) ∷ (7, 2, 9, 1, 0, 1) ∷ (7, 2, 9, 2, 0, 1) ∷ []) ∷ ran 1 [] 0 0 ∷ holds (b0 ∷ p0 ∷ s_passive inf ((1, Some 0, Some 0) ∷ []) ∷ []) [] ∷ ran 1 ((7, 2, 9, 2, 0, 1) ∷ (7, 2, 9, 1, 0, 1) ∷ (7, 2, 9, 2, 0, 1) ∷ []) 0 1 ∷ holds (b0 ∷ p_active 0x3ff0000000000000 (2 ∷ []) ∷ s_passive inf ((1, Some 0, Some 0) ∷ []) ∷ []) ((7, 2, 9, 2, 0, 1) ∷ (7, 2, 9, 1, 0, 1) ∷ (7, 2, 9, 2, 0, 1) ∷ []) ∷ spent 1 [] 0 1 ∷ [])
+    (b0 ∷ p_active 0x3ff0000000000000 (2 ∷ []) ∷ s_passive inf ((1, Some 0, Some 0) ∷ []) ∷ []) []
 unfolding play
 case-223 = refl
 

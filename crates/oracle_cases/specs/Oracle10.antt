@@ -1,6 +1,5 @@
 -- Answers of the oracle, computed over the rules: cases 226 to 250. The number above a case is its script's (--show). Written by oracle/write_cases.py. Assumes nothing.
-use Rattle.std.specs.Prelude.{ℕ, ◌≡◌, refl, List, [], ◌∷◌}
-use Rattle.std.proofs.Math.Option.{Option, none, some}
+use Rattle.std.specs.Prelude.{ℕ, ◌≡◌, refl, List, [], ◌∷◌, Option, None, Some}
 use Rattle.rules.specs.declared.ProcessorPhase.TheVariants as working
 use Rattle.rules.specs.declared.BatcherPhase.TheVariants as batching
 use Rattle.rules.specs.Calls.{OfProcessor, OfBatcher, Mean, ParkedCount}
@@ -56,8 +55,8 @@ pub case-230 :
     []
     (job 7 255 3 ∷ inject 65535 3 9 1 0 2 ∷ job 9 1 3 ∷ inject 0 0 9 1 0x3ff0000000000000 1 ∷ step ∷ look ∷ job 9 1 3 ∷ steps 3 ∷ look ∷ steps 3 ∷ look ∷ step ∷ look ∷ step ∷ look ∷ step ∷ [])
     ≡ seen
-    (ran 1 ((9, 1, 7, 255, 0, 2) ∷ (9, 1, 7, 255, 0, 3) ∷ (7, 1, 9, 1, 0, 3) ∷ (7, 1, 7, 65534, 0, 3) ∷ []) 0 0 ∷ holds (parks ((2, 255, 2) ∷ (2, 255, 3) ∷ []) ∷ c0 ∷ c0 ∷ b_batching 0x4028b0a3d70a3d71 (1 ∷ []) ∷ s_passive inf ((2, none, some 0) ∷ (3, none, some 0) ∷ (1, none, some 0) ∷ []) ∷ p0 ∷ b0 ∷ []) ((9, 1, 7, 255, 0, 2) ∷ (9, 1, 7, 255, 0, 3) ∷ (7, 1, 9, 1, 0, 3) ∷ (7, 1, 7, 65534, 0, 3) ∷ []) ∷ ran 3 ((9, 1, 7, 255, 0, 1) ∷ (9, 1, 7, 255, 0, 3) ∷ (7, 1, 9, 1, 0, 2) ∷ (7, 1, 7, 65534, 0, 2) ∷ (9, 1, 7, 255, 0, 3) ∷ (9, 1, 7, 255, 0, 2) ∷ (7, 1, 9, 1, 0, 3) ∷ (7, 1, 7, 65534, 0, 3) ∷ (9, 1, 7, 255, 0, 3) ∷ (9, 1, 7, 255, 0, 2) ∷ (7, 1, 9, 1, 0, 3) ∷ (7, 1, 7, 65534, 0, 3) ∷ []) 0 0 ∷ holds (parks ((2, 255, 3) ∷ (2, 255, 2) ∷ []) ∷ c0 ∷ c0 ∷ b_release 0 (1 ∷ 3 ∷ 3 ∷ 3 ∷ 2 ∷ []) ∷ s_passive inf ((2, none, some 0) ∷ (3, none, some 0) ∷ (1, none, some 0) ∷ []) ∷ p0 ∷ b_release 0 (1 ∷ 3 ∷ 2 ∷ 3 ∷ 2 ∷ 3 ∷ []) ∷ []) ((9, 1, 7, 255, 0, 3) ∷ (9, 1, 7, 255, 0, 2) ∷ (7, 1, 9, 1, 0, 3) ∷ (7, 1, 7, 65534, 0, 3) ∷ []) ∷ ran 3 ((9, 1, 7, 255, 0, 1) ∷ (9, 1, 7, 255, 0, 3) ∷ (7, 1, 9, 1, 0, 1) ∷ (7, 1, 7, 65534, 0, 1) ∷ (9, 1, 7, 255, 0, 3) ∷ (9, 1, 7, 255, 0, 3) ∷ (7, 1, 9, 1, 0, 3) ∷ (7, 1, 7, 65534, 0, 3) ∷ (9, 1, 7, 255, 0, 2) ∷ (9, 1, 7, 255, 0, 3) ∷ (7, 1, 9, 1, 0, 2) ∷ (7, 1, 7, 65534, 0, 2) ∷ []) 0 0 ∷ holds (parks ((2, 255, 2) ∷ (2, 255, 3) ∷ []) ∷ c0 ∷ c0 ∷ b_release 0 (3 ∷ 2 ∷ 1 ∷ 1 ∷ 3 ∷ 3 ∷ 3 ∷ 3 ∷ []) ∷ s_passive inf ((2, none, some 0) ∷ (3, none, some 0) ∷ (1, none, some 0) ∷ []) ∷ p0 ∷ b_release 0 (3 ∷ 2 ∷ 3 ∷ 3 ∷ 2 ∷ 3 ∷ 1 ∷ 3 ∷ 1 ∷ 3 ∷ 3 ∷ 3 ∷ []) ∷ []) ((9, 1, 7, 255, 0, 2) ∷ (9, 1, 7, 255, 0, 3) ∷ (7, 1, 9, 1, 0, 2) ∷ (7, 1, 7, 65534, 0, 2) ∷ []) ∷ ran 1 ((9, 1, 7, 255, 0, 3) ∷ (9, 1, 7, 255, 0, 2) ∷ (7, 1, 9, 1, 0, 3) ∷ (7, 1, 7, 65534, 0, 3) ∷ []) 0 0 ∷ holds (parks ((2, 255, 3) ∷ (2, 255, 2) ∷ []) ∷ c0 ∷ c0 ∷ b_release 0 (1 ∷ 1 ∷ 3 ∷ 3 ∷ 3 ∷ 3 ∷ 2 ∷ 2 ∷ 3 ∷ []) ∷ s_passive inf ((2, none, some 0) ∷ (3, none, some 0) ∷ (1, none, some 0) ∷ []) ∷ p0 ∷ b_release 0 (2 ∷ 3 ∷ 3 ∷ 2 ∷ 3 ∷ 1 ∷ 3 ∷ 1 ∷ 3 ∷ 3 ∷ 3 ∷ 2 ∷ 3 ∷ 2 ∷ []) ∷ []) ((9, 1, 7, 255, 0, 3) ∷ (9, 1, 7, 255, 0, 2) ∷ (7, 1, 9, 1, 0, 3) ∷ (7, 1, 7, 65534, 0, 3) ∷ []) ∷ ran 1 ((9, 1, 7, 255, 0, 1) ∷ (9, 1, 7, 255, 0, 1) ∷ (7, 1, 9, 1, 0, 2) ∷ (7, 1, 7, 65534, 0, 2) ∷ []) 0 0 ∷ holds (parks ((2, 255, 1) ∷ (2, 255, 1) ∷ []) ∷ c0 ∷ c0 ∷ b_release 0 (3 ∷ 3 ∷ 3 ∷ 3 ∷ 2 ∷ 2 ∷ 3 ∷ 3 ∷ 3 ∷ 2 ∷ []) ∷ s_passive inf ((2, none, some 0) ∷ (3, none, some 0) ∷ (1, none, some 0) ∷ []) ∷ p0 ∷ b_release 0 (3 ∷ 3 ∷ 2 ∷ 3 ∷ 1 ∷ 3 ∷ 1 ∷ 3 ∷ 3 ∷ 3 ∷ 2 ∷ 3 ∷ 2 ∷ 3 ∷ 2 ∷ 3 ∷ []) ∷ []) ((9, 1, 7, 255, 0, 1) ∷ (9, 1, 7, 255, 0, 1) ∷ (7, 1, 9, 1, 0, 2) ∷ (7, 1, 7, 65534, 0, 2) ∷ []) ∷ ran 1 ((9, 1, 7, 255, 0, 3) ∷ (9, 1, 7, 255, 0, 3) ∷ (7, 1, 9, 1, 0, 3) ∷ (7, 1, 7, 65534, 0, 3) ∷ []) 0 0 ∷ [])
-    (parks ((2, 255, 3) ∷ (2, 255, 3) ∷ []) ∷ c0 ∷ c0 ∷ b_release 0 (3 ∷ 3 ∷ 2 ∷ 2 ∷ 3 ∷ 3 ∷ 3 ∷ 2 ∷ 2 ∷ 1 ∷ 1 ∷ []) ∷ s_passive inf ((2, none, some 0) ∷ (3, none, some 0) ∷ (1, none, some 0) ∷ []) ∷ p0 ∷ b_release 0 (3 ∷ 2 ∷ 3 ∷ 1 ∷ 3 ∷ 1 ∷ 3 ∷ 3 ∷ 3 ∷ 2 ∷ 3 ∷ 2 ∷ 3 ∷ 2 ∷ 3 ∷ 1 ∷ 1 ∷ 2 ∷ []) ∷ []) ((9, 1, 7, 255, 0, 3) ∷ (9, 1, 7, 255, 0, 3) ∷ (7, 1, 9, 1, 0, 3) ∷ (7, 1, 7, 65534, 0, 3) ∷ [])
+    (ran 1 ((9, 1, 7, 255, 0, 2) ∷ (9, 1, 7, 255, 0, 3) ∷ (7, 1, 9, 1, 0, 3) ∷ (7, 1, 7, 65534, 0, 3) ∷ []) 0 0 ∷ holds (parks ((2, 255, 2) ∷ (2, 255, 3) ∷ []) ∷ c0 ∷ c0 ∷ b_batching 0x4028b0a3d70a3d71 (1 ∷ []) ∷ s_passive inf ((2, None, Some 0) ∷ (3, None, Some 0) ∷ (1, None, Some 0) ∷ []) ∷ p0 ∷ b0 ∷ []) ((9, 1, 7, 255, 0, 2) ∷ (9, 1, 7, 255, 0, 3) ∷ (7, 1, 9, 1, 0, 3) ∷ (7, 1, 7, 65534, 0, 3) ∷ []) ∷ ran 3 ((9, 1, 7, 255, 0, 1) ∷ (9, 1, 7, 255, 0, 3) ∷ (7, 1, 9, 1, 0, 2) ∷ (7, 1, 7, 65534, 0, 2) ∷ (9, 1, 7, 255, 0, 3) ∷ (9, 1, 7, 255, 0, 2) ∷ (7, 1, 9, 1, 0, 3) ∷ (7, 1, 7, 65534, 0, 3) ∷ (9, 1, 7, 255, 0, 3) ∷ (9, 1, 7, 255, 0, 2) ∷ (7, 1, 9, 1, 0, 3) ∷ (7, 1, 7, 65534, 0, 3) ∷ []) 0 0 ∷ holds (parks ((2, 255, 3) ∷ (2, 255, 2) ∷ []) ∷ c0 ∷ c0 ∷ b_release 0 (1 ∷ 3 ∷ 3 ∷ 3 ∷ 2 ∷ []) ∷ s_passive inf ((2, None, Some 0) ∷ (3, None, Some 0) ∷ (1, None, Some 0) ∷ []) ∷ p0 ∷ b_release 0 (1 ∷ 3 ∷ 2 ∷ 3 ∷ 2 ∷ 3 ∷ []) ∷ []) ((9, 1, 7, 255, 0, 3) ∷ (9, 1, 7, 255, 0, 2) ∷ (7, 1, 9, 1, 0, 3) ∷ (7, 1, 7, 65534, 0, 3) ∷ []) ∷ ran 3 ((9, 1, 7, 255, 0, 1) ∷ (9, 1, 7, 255, 0, 3) ∷ (7, 1, 9, 1, 0, 1) ∷ (7, 1, 7, 65534, 0, 1) ∷ (9, 1, 7, 255, 0, 3) ∷ (9, 1, 7, 255, 0, 3) ∷ (7, 1, 9, 1, 0, 3) ∷ (7, 1, 7, 65534, 0, 3) ∷ (9, 1, 7, 255, 0, 2) ∷ (9, 1, 7, 255, 0, 3) ∷ (7, 1, 9, 1, 0, 2) ∷ (7, 1, 7, 65534, 0, 2) ∷ []) 0 0 ∷ holds (parks ((2, 255, 2) ∷ (2, 255, 3) ∷ []) ∷ c0 ∷ c0 ∷ b_release 0 (3 ∷ 2 ∷ 1 ∷ 1 ∷ 3 ∷ 3 ∷ 3 ∷ 3 ∷ []) ∷ s_passive inf ((2, None, Some 0) ∷ (3, None, Some 0) ∷ (1, None, Some 0) ∷ []) ∷ p0 ∷ b_release 0 (3 ∷ 2 ∷ 3 ∷ 3 ∷ 2 ∷ 3 ∷ 1 ∷ 3 ∷ 1 ∷ 3 ∷ 3 ∷ 3 ∷ []) ∷ []) ((9, 1, 7, 255, 0, 2) ∷ (9, 1, 7, 255, 0, 3) ∷ (7, 1, 9, 1, 0, 2) ∷ (7, 1, 7, 65534, 0, 2) ∷ []) ∷ ran 1 ((9, 1, 7, 255, 0, 3) ∷ (9, 1, 7, 255, 0, 2) ∷ (7, 1, 9, 1, 0, 3) ∷ (7, 1, 7, 65534, 0, 3) ∷ []) 0 0 ∷ holds (parks ((2, 255, 3) ∷ (2, 255, 2) ∷ []) ∷ c0 ∷ c0 ∷ b_release 0 (1 ∷ 1 ∷ 3 ∷ 3 ∷ 3 ∷ 3 ∷ 2 ∷ 2 ∷ 3 ∷ []) ∷ s_passive inf ((2, None, Some 0) ∷ (3, None, Some 0) ∷ (1, None, Some 0) ∷ []) ∷ p0 ∷ b_release 0 (2 ∷ 3 ∷ 3 ∷ 2 ∷ 3 ∷ 1 ∷ 3 ∷ 1 ∷ 3 ∷ 3 ∷ 3 ∷ 2 ∷ 3 ∷ 2 ∷ []) ∷ []) ((9, 1, 7, 255, 0, 3) ∷ (9, 1, 7, 255, 0, 2) ∷ (7, 1, 9, 1, 0, 3) ∷ (7, 1, 7, 65534, 0, 3) ∷ []) ∷ ran 1 ((9, 1, 7, 255, 0, 1) ∷ (9, 1, 7, 255, 0, 1) ∷ (7, 1, 9, 1, 0, 2) ∷ (7, 1, 7, 65534, 0, 2) ∷ []) 0 0 ∷ holds (parks ((2, 255, 1) ∷ (2, 255, 1) ∷ []) ∷ c0 ∷ c0 ∷ b_release 0 (3 ∷ 3 ∷ 3 ∷ 3 ∷ 2 ∷ 2 ∷ 3 ∷ 3 ∷ 3 ∷ 2 ∷ []) ∷ s_passive inf ((2, None, Some 0) ∷ (3, None, Some 0) ∷ (1, None, Some 0) ∷ []) ∷ p0 ∷ b_release 0 (3 ∷ 3 ∷ 2 ∷ 3 ∷ 1 ∷ 3 ∷ 1 ∷ 3 ∷ 3 ∷ 3 ∷ 2 ∷ 3 ∷ 2 ∷ 3 ∷ 2 ∷ 3 ∷ []) ∷ []) ((9, 1, 7, 255, 0, 1) ∷ (9, 1, 7, 255, 0, 1) ∷ (7, 1, 9, 1, 0, 2) ∷ (7, 1, 7, 65534, 0, 2) ∷ []) ∷ ran 1 ((9, 1, 7, 255, 0, 3) ∷ (9, 1, 7, 255, 0, 3) ∷ (7, 1, 9, 1, 0, 3) ∷ (7, 1, 7, 65534, 0, 3) ∷ []) 0 0 ∷ [])
+    (parks ((2, 255, 3) ∷ (2, 255, 3) ∷ []) ∷ c0 ∷ c0 ∷ b_release 0 (3 ∷ 3 ∷ 2 ∷ 2 ∷ 3 ∷ 3 ∷ 3 ∷ 2 ∷ 2 ∷ 1 ∷ 1 ∷ []) ∷ s_passive inf ((2, None, Some 0) ∷ (3, None, Some 0) ∷ (1, None, Some 0) ∷ []) ∷ p0 ∷ b_release 0 (3 ∷ 2 ∷ 3 ∷ 1 ∷ 3 ∷ 1 ∷ 3 ∷ 3 ∷ 3 ∷ 2 ∷ 3 ∷ 2 ∷ 3 ∷ 2 ∷ 3 ∷ 1 ∷ 1 ∷ 2 ∷ []) ∷ []) ((9, 1, 7, 255, 0, 3) ∷ (9, 1, 7, 255, 0, 3) ∷ (7, 1, 9, 1, 0, 3) ∷ (7, 1, 7, 65534, 0, 3) ∷ [])
 unfolding play
 case-230 = refl
 
@@ -78,8 +77,8 @@ pub case-232 :
     (0x4010000000000000 ∷ 0x3fd3333333333333 ∷ [])
     (job 9 1 4294967295 ∷ inject 0 0 97 1 0x3fb999999999999a 7 ∷ steps 2 ∷ look ∷ reset-global-time ∷ step ∷ look ∷ job 9 4 2147483648 ∷ until 0x4004000000000000 1 ∷ [])
     ≡ seen
-    (ran 2 [] 0x4010000000000000 1 ∷ holds (c0 ∷ c0 ∷ p_passive 0 [] ∷ s_passive inf ((4294967295, some 0, none) ∷ []) ∷ []) [] ∷ ran 1 [] 0 1 ∷ holds (c0 ∷ c0 ∷ p0 ∷ s_passive inf ((4294967295, some 0, none) ∷ []) ∷ []) [] ∷ spent 1 [] 0 1 ∷ [])
-    (c0 ∷ c0 ∷ p0 ∷ s_passive inf ((4294967295, some 0, none) ∷ []) ∷ []) []
+    (ran 2 [] 0x4010000000000000 1 ∷ holds (c0 ∷ c0 ∷ p_passive 0 [] ∷ s_passive inf ((4294967295, Some 0, None) ∷ []) ∷ []) [] ∷ ran 1 [] 0 1 ∷ holds (c0 ∷ c0 ∷ p0 ∷ s_passive inf ((4294967295, Some 0, None) ∷ []) ∷ []) [] ∷ spent 1 [] 0 1 ∷ [])
+    (c0 ∷ c0 ∷ p0 ∷ s_passive inf ((4294967295, Some 0, None) ∷ []) ∷ []) []
 unfolding play
 case-232 = refl
 
@@ -122,8 +121,8 @@ pub case-236 :
     (0x3fd3333333333333 ∷ [])
     (inject 0 0 7 1 0x3ff0000000000000 2 ∷ inject 0 0 7 1 0x4028b0a3d70a3d71 2 ∷ inject 5 3 7 1 0x3fe6666666666666 2 ∷ put_in (coup 4 0 ∷ bat 8 0 1 1 4611686018427387904 0x3ff0000000000000 ∷ most 6 0 3 4 1 1 ∷ proc 3 0 1 1 8 ∷ least 5 0 2 4 3 2 ∷ bat 2 4 1 1 2 0 ∷ []) (link 5 2 8 2 ∷ link 4 1 6 1 ∷ link 4 1 6 4 ∷ link 5 2 5 3 ∷ link 3 1 4 2 ∷ link 5 2 5 4 ∷ link 4 1 6 4 ∷ link 4 2 3 1 ∷ link 4 1 6 3 ∷ link 6 1 4 2 ∷ link 4 1 5 2 ∷ []) (inner 4 2 1 2 3 ∷ into 4 2 2 4 ∷ into 4 2 2 4 ∷ out 4 2 1 1 ∷ []) ∷ step ∷ look ∷ job 5 4 3 ∷ step ∷ look ∷ job 6 3 1 ∷ steps 1 ∷ [])
     ≡ seen
-    (ran 1 [] 0 0 ∷ holds (c0 ∷ b0 ∷ s0 ∷ p0 ∷ s0 ∷ b0 ∷ []) [] ∷ ran 1 [] 0 0 ∷ holds (c0 ∷ b0 ∷ s0 ∷ p0 ∷ s_passive inf ((3, none, some 0) ∷ []) ∷ b0 ∷ []) [] ∷ ran 1 [] 0 0 ∷ [])
-    (c0 ∷ b0 ∷ s_passive inf ((1, some 0, none) ∷ []) ∷ p0 ∷ s_passive inf ((3, none, some 0) ∷ []) ∷ b0 ∷ []) []
+    (ran 1 [] 0 0 ∷ holds (c0 ∷ b0 ∷ s0 ∷ p0 ∷ s0 ∷ b0 ∷ []) [] ∷ ran 1 [] 0 0 ∷ holds (c0 ∷ b0 ∷ s0 ∷ p0 ∷ s_passive inf ((3, None, Some 0) ∷ []) ∷ b0 ∷ []) [] ∷ ran 1 [] 0 0 ∷ [])
+    (c0 ∷ b0 ∷ s_passive inf ((1, Some 0, None) ∷ []) ∷ p0 ∷ s_passive inf ((3, None, Some 0) ∷ []) ∷ b0 ∷ []) []
 unfolding play
 case-236 = refl
 
@@ -144,8 +143,8 @@ pub case-238 :
     (0x4028b0a3d70a3d71 ∷ [])
     (job 8 2 1 ∷ job 8 3 3 ∷ job 8 1 1 ∷ job 8 2 1 ∷ step ∷ look ∷ job 8 1 1 ∷ inject 0 0 8 3 0x4010000000000000 2 ∷ step ∷ look ∷ job 8 4 2 ∷ job 8 2 1 ∷ job 8 3 1 ∷ job 8 2 3 ∷ job 8 1 1 ∷ inject 0 0 8 2 0x3fb999999999999a 1 ∷ step ∷ [])
     ≡ seen
-    (ran 1 ((8, 2, 99, 1, 0, 1) ∷ []) 0 1 ∷ holds (parks ((4, 1, 1) ∷ []) ∷ p_active 0x4028b0a3d70a3d71 (1 ∷ 1 ∷ []) ∷ s_passive inf ((1, some 0, some 0) ∷ []) ∷ p0 ∷ []) ((8, 2, 99, 1, 0, 1) ∷ []) ∷ ran 1 ((8, 2, 99, 1, 0, 1) ∷ []) 0 1 ∷ holds (parks ((4, 1, 1) ∷ []) ∷ p_active 0x4028b0a3d70a3d71 (1 ∷ 1 ∷ []) ∷ s_passive inf ((1, some 0, some 0) ∷ []) ∷ p0 ∷ []) ((8, 2, 99, 1, 0, 1) ∷ []) ∷ ran 1 ((8, 2, 99, 1, 0, 1) ∷ []) 0 1 ∷ [])
-    (parks ((4, 1, 1) ∷ []) ∷ p_active 0x4028b0a3d70a3d71 (1 ∷ 1 ∷ 1 ∷ 3 ∷ 1 ∷ []) ∷ s_passive inf ((1, some 0, some 0) ∷ (3, none, some 0) ∷ []) ∷ p0 ∷ []) ((8, 2, 99, 1, 0, 1) ∷ [])
+    (ran 1 ((8, 2, 99, 1, 0, 1) ∷ []) 0 1 ∷ holds (parks ((4, 1, 1) ∷ []) ∷ p_active 0x4028b0a3d70a3d71 (1 ∷ 1 ∷ []) ∷ s_passive inf ((1, Some 0, Some 0) ∷ []) ∷ p0 ∷ []) ((8, 2, 99, 1, 0, 1) ∷ []) ∷ ran 1 ((8, 2, 99, 1, 0, 1) ∷ []) 0 1 ∷ holds (parks ((4, 1, 1) ∷ []) ∷ p_active 0x4028b0a3d70a3d71 (1 ∷ 1 ∷ []) ∷ s_passive inf ((1, Some 0, Some 0) ∷ []) ∷ p0 ∷ []) ((8, 2, 99, 1, 0, 1) ∷ []) ∷ ran 1 ((8, 2, 99, 1, 0, 1) ∷ []) 0 1 ∷ [])
+    (parks ((4, 1, 1) ∷ []) ∷ p_active 0x4028b0a3d70a3d71 (1 ∷ 1 ∷ 1 ∷ 3 ∷ 1 ∷ []) ∷ s_passive inf ((1, Some 0, Some 0) ∷ (3, None, Some 0) ∷ []) ∷ p0 ∷ []) ((8, 2, 99, 1, 0, 1) ∷ [])
 unfolding play
 case-238 = refl
 
@@ -266,7 +265,7 @@ pub case-249 :
     (job 4 1 7 ∷ job 8 4 2147483648 ∷ job 2 3 0 ∷ step ∷ look ∷ step ∷ look ∷ steps 4 ∷ [])
     ≡ seen
     (ran 1 [] 0 1 ∷ holds (s0 ∷ b_batching 0x3fd3333333333333 (2147483648 ∷ []) ∷ p0 ∷ p_active 0x4010000000000000 (7 ∷ []) ∷ b_batching 0x401c000000000000 (0 ∷ []) ∷ p0 ∷ b0 ∷ []) [] ∷ ran 1 ((8, 2, 2, 1, 0x3fd3333333333333, 2147483648) ∷ (8, 2, 6, 4, 0x3fd3333333333333, 2147483648) ∷ []) 0x3fd3333333333333 1 ∷ holds (s0 ∷ b0 ∷ p0 ∷ p_active 0x400d99999999999a (7 ∷ []) ∷ b_batching 0x401acccccccccccd (0 ∷ []) ∷ p0 ∷ b0 ∷ []) ((8, 2, 2, 1, 0x3fd3333333333333, 2147483648) ∷ (8, 2, 6, 4, 0x3fd3333333333333, 2147483648) ∷ []) ∷ ran 4 ((4, 2, 6, 1, 0x4010000000000000, 7) ∷ (4, 2, 8, 1, 0x4010000000000000, 7) ∷ (8, 2, 2, 1, 0x4011333333333333, 7) ∷ (8, 2, 6, 4, 0x4011333333333333, 7) ∷ []) 0x4011333333333333 1 ∷ [])
-    (s_passive inf ((2147483648, some 0x3fd3333333333333, none) ∷ (7, none, some 0x4010000000000000) ∷ []) ∷ b0 ∷ p0 ∷ p0 ∷ b_batching 0x400599999999999a (0 ∷ 2147483648 ∷ []) ∷ p0 ∷ b0 ∷ []) ((8, 2, 2, 1, 0x4011333333333333, 7) ∷ (8, 2, 6, 4, 0x4011333333333333, 7) ∷ [])
+    (s_passive inf ((2147483648, Some 0x3fd3333333333333, None) ∷ (7, None, Some 0x4010000000000000) ∷ []) ∷ b0 ∷ p0 ∷ p0 ∷ b_batching 0x400599999999999a (0 ∷ 2147483648 ∷ []) ∷ p0 ∷ b0 ∷ []) ((8, 2, 2, 1, 0x4011333333333333, 7) ∷ (8, 2, 6, 4, 0x4011333333333333, 7) ∷ [])
 unfolding play
 case-249 = refl
 
@@ -276,7 +275,7 @@ pub case-250 :
     (0x3fb999999999999a ∷ [])
     (job 4 2 2 ∷ job 4 2 3 ∷ job 4 1 3 ∷ step ∷ look ∷ job 4 2 1 ∷ until 0 2 ∷ look ∷ job 4 1 2 ∷ inject 0 0 9 3 0x3e112e0be826d695 2 ∷ steps 1 ∷ look ∷ step ∷ look ∷ until 0x3fc999999999999a 502 ∷ look ∷ inject 0 0 9 3 0x3fb999999999999a 1 ∷ job 9 1 2 ∷ until 0x3ff3333333333333 5 ∷ [])
     ≡ seen
-    (ran 1 [] 0 0 ∷ holds (c0 ∷ c0 ∷ c0 ∷ b0 ∷ p0 ∷ s_passive inf ((2, none, some 0) ∷ (3, some 0, some 0) ∷ []) ∷ []) [] ∷ reached 1 [] 0 0 ∷ holds (c0 ∷ c0 ∷ c0 ∷ b0 ∷ p0 ∷ s_passive inf ((2, none, some 0) ∷ (3, some 0, some 0) ∷ (1, none, some 0) ∷ []) ∷ []) [] ∷ ran 1 [] 0 0 ∷ holds (c0 ∷ c0 ∷ c0 ∷ b_batching 0x3fb999999999999a (2 ∷ []) ∷ p0 ∷ s_passive inf ((2, some 0, some 0) ∷ (3, some 0, some 0) ∷ (1, none, some 0) ∷ []) ∷ []) [] ∷ ran 1 ((9, 2, 9, 4, 0x3fb999999999999a, 2) ∷ []) 0x3fb999999999999a 0 ∷ holds (c0 ∷ c0 ∷ c0 ∷ b0 ∷ p0 ∷ s_passive inf ((2, some 0, some 0) ∷ (3, some 0, some 0) ∷ (1, none, some 0) ∷ []) ∷ []) ((9, 2, 9, 4, 0x3fb999999999999a, 2) ∷ []) ∷ reached 2 [] 0x3fc999999999999a 0 ∷ holds (c0 ∷ c0 ∷ c0 ∷ b0 ∷ p0 ∷ s_passive inf ((2, some 0, some 0) ∷ (3, some 0, some 0) ∷ (1, none, some 0) ∷ []) ∷ []) ((9, 2, 9, 4, 0x3fc999999999999a, 2) ∷ []) ∷ spent 5 ((9, 2, 9, 4, 0x3fd3333333333334, 2) ∷ (9, 2, 9, 4, 0x3fd3333333333334, 1) ∷ (9, 2, 9, 4, 0x3fd3333333333334, 2) ∷ (9, 2, 9, 4, 0x3fd999999999999a, 2) ∷ (9, 2, 9, 4, 0x3fd999999999999a, 1) ∷ (9, 2, 9, 4, 0x3fd999999999999a, 2) ∷ []) 0x3fd999999999999a 0 ∷ [])
-    (c0 ∷ c0 ∷ c0 ∷ b_batching 0x3fb999999999999a (2 ∷ 1 ∷ 2 ∷ []) ∷ p0 ∷ s_passive inf ((2, some 0, some 0) ∷ (3, some 0, some 0) ∷ (1, none, some 0) ∷ []) ∷ []) []
+    (ran 1 [] 0 0 ∷ holds (c0 ∷ c0 ∷ c0 ∷ b0 ∷ p0 ∷ s_passive inf ((2, None, Some 0) ∷ (3, Some 0, Some 0) ∷ []) ∷ []) [] ∷ reached 1 [] 0 0 ∷ holds (c0 ∷ c0 ∷ c0 ∷ b0 ∷ p0 ∷ s_passive inf ((2, None, Some 0) ∷ (3, Some 0, Some 0) ∷ (1, None, Some 0) ∷ []) ∷ []) [] ∷ ran 1 [] 0 0 ∷ holds (c0 ∷ c0 ∷ c0 ∷ b_batching 0x3fb999999999999a (2 ∷ []) ∷ p0 ∷ s_passive inf ((2, Some 0, Some 0) ∷ (3, Some 0, Some 0) ∷ (1, None, Some 0) ∷ []) ∷ []) [] ∷ ran 1 ((9, 2, 9, 4, 0x3fb999999999999a, 2) ∷ []) 0x3fb999999999999a 0 ∷ holds (c0 ∷ c0 ∷ c0 ∷ b0 ∷ p0 ∷ s_passive inf ((2, Some 0, Some 0) ∷ (3, Some 0, Some 0) ∷ (1, None, Some 0) ∷ []) ∷ []) ((9, 2, 9, 4, 0x3fb999999999999a, 2) ∷ []) ∷ reached 2 [] 0x3fc999999999999a 0 ∷ holds (c0 ∷ c0 ∷ c0 ∷ b0 ∷ p0 ∷ s_passive inf ((2, Some 0, Some 0) ∷ (3, Some 0, Some 0) ∷ (1, None, Some 0) ∷ []) ∷ []) ((9, 2, 9, 4, 0x3fc999999999999a, 2) ∷ []) ∷ spent 5 ((9, 2, 9, 4, 0x3fd3333333333334, 2) ∷ (9, 2, 9, 4, 0x3fd3333333333334, 1) ∷ (9, 2, 9, 4, 0x3fd3333333333334, 2) ∷ (9, 2, 9, 4, 0x3fd999999999999a, 2) ∷ (9, 2, 9, 4, 0x3fd999999999999a, 1) ∷ (9, 2, 9, 4, 0x3fd999999999999a, 2) ∷ []) 0x3fd999999999999a 0 ∷ [])
+    (c0 ∷ c0 ∷ c0 ∷ b_batching 0x3fb999999999999a (2 ∷ 1 ∷ 2 ∷ []) ∷ p0 ∷ s_passive inf ((2, Some 0, Some 0) ∷ (3, Some 0, Some 0) ∷ (1, None, Some 0) ∷ []) ∷ []) []
 unfolding play
 case-250 = refl

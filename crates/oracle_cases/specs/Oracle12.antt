@@ -1,6 +1,5 @@
 -- Answers of the oracle, computed over the rules: cases 276 to 300. The number above a case is its script's (--show). Written by oracle/write_cases.py. Assumes nothing.
-use Rattle.std.specs.Prelude.{ℕ, ◌≡◌, refl, List, [], ◌∷◌}
-use Rattle.std.proofs.Math.Option.{Option, none, some}
+use Rattle.std.specs.Prelude.{ℕ, ◌≡◌, refl, List, [], ◌∷◌, Option, None, Some}
 use Rattle.rules.specs.declared.ProcessorPhase.TheVariants as working
 use Rattle.rules.specs.declared.BatcherPhase.TheVariants as batching
 use Rattle.rules.specs.Calls.{OfProcessor, OfBatcher, Mean, ParkedCount}
@@ -23,8 +22,8 @@ pub case-277 :
     (0x3fd5555555555555 ∷ [])
     (job 2 2 1 ∷ job 6 2 2 ∷ put_in (coup 6 0 ∷ coup 2 6 ∷ coup 8 2 ∷ coup 5 8 ∷ least 3 5 4 2 3 1 ∷ most 1 2 4 1 3 2 ∷ []) (link 8 2 6 1 ∷ link 6 1 6 1 ∷ link 6 2 99 2 ∷ link 6 2 99 3 ∷ []) (inner 6 2 1 2 1 ∷ out 6 2 1 1 ∷ out 2 8 2 2 ∷ into 5 2 3 4 ∷ into 6 1 2 1 ∷ into 2 1 1 1 ∷ out 6 2 2 2 ∷ out 2 1 2 1 ∷ into 5 1 3 4 ∷ out 5 3 1 1 ∷ inner 2 8 2 8 2 ∷ inner 2 1 2 98 3 ∷ out 6 2 2 2 ∷ inner 6 2 1 2 1 ∷ into 2 1 8 2 ∷ inner 6 2 2 2 4 ∷ into 8 2 5 1 ∷ out 8 5 1 2 ∷ into 5 1 3 4 ∷ inner 6 2 1 98 2 ∷ into 8 2 5 2 ∷ []) ∷ step ∷ look ∷ job 6 1 2 ∷ step ∷ look ∷ job 6 1 2 ∷ job 6 1 3 ∷ job 6 1 3 ∷ job 6 1 2 ∷ step ∷ look ∷ inject 5 3 6 1 0x4010000000000000 3 ∷ job 97 3 1 ∷ put_in (coup 3 0 ∷ coup 7 3 ∷ bat 5 7 1 2 1 0x3fd2492492492492 ∷ least 1 3 3 2 1 1 ∷ []) (link 5 2 3 2 ∷ link 3 3 99 2 ∷ link 3 4 3 2 ∷ link 3 4 99 1 ∷ []) (into 7 2 5 2 ∷ into 3 1 1 3 ∷ out 7 5 2 2 ∷ out 7 5 2 1 ∷ into 3 2 1 2 ∷ into 7 1 5 2 ∷ into 3 1 1 3 ∷ into 7 2 5 4 ∷ inner 3 7 2 7 2 ∷ into 3 3 1 1 ∷ inner 3 7 1 1 3 ∷ into 3 2 1 3 ∷ out 7 5 2 2 ∷ into 3 1 1 2 ∷ []) ∷ step ∷ look ∷ inject 0 0 3 1 0x3ff0000000000000 3 ∷ steps 1 ∷ look ∷ job 3 1 3 ∷ status 1 ∷ step ∷ [])
     ≡ seen
-    (ran 1 [] 0 0 ∷ holds (c0 ∷ c0 ∷ c0 ∷ c0 ∷ s0 ∷ s0 ∷ []) [] ∷ ran 1 [] 0 0 ∷ holds (c0 ∷ c0 ∷ c0 ∷ c0 ∷ s_passive inf ((2, some 0, none) ∷ []) ∷ s_passive inf ((2, none, some 0) ∷ []) ∷ []) [] ∷ ran 1 [] 0 0 ∷ holds (c0 ∷ c0 ∷ c0 ∷ c0 ∷ s_passive inf ((2, some 0, none) ∷ (3, some 0, none) ∷ []) ∷ s_passive inf ((2, none, some 0) ∷ (3, none, some 0) ∷ []) ∷ []) [] ∷ ran 1 [] 0 0 ∷ holds (c0 ∷ c0 ∷ b0 ∷ s0 ∷ []) [] ∷ ran 1 [] 0 0 ∷ holds (c0 ∷ c0 ∷ b0 ∷ s_passive inf ((3, some 0, some 0) ∷ []) ∷ []) [] ∷ refuses 4 ∷ ran 1 [] 0 0 ∷ [])
-    (c0 ∷ c0 ∷ b0 ∷ s_passive inf ((3, some 0, some 0) ∷ []) ∷ []) []
+    (ran 1 [] 0 0 ∷ holds (c0 ∷ c0 ∷ c0 ∷ c0 ∷ s0 ∷ s0 ∷ []) [] ∷ ran 1 [] 0 0 ∷ holds (c0 ∷ c0 ∷ c0 ∷ c0 ∷ s_passive inf ((2, Some 0, None) ∷ []) ∷ s_passive inf ((2, None, Some 0) ∷ []) ∷ []) [] ∷ ran 1 [] 0 0 ∷ holds (c0 ∷ c0 ∷ c0 ∷ c0 ∷ s_passive inf ((2, Some 0, None) ∷ (3, Some 0, None) ∷ []) ∷ s_passive inf ((2, None, Some 0) ∷ (3, None, Some 0) ∷ []) ∷ []) [] ∷ ran 1 [] 0 0 ∷ holds (c0 ∷ c0 ∷ b0 ∷ s0 ∷ []) [] ∷ ran 1 [] 0 0 ∷ holds (c0 ∷ c0 ∷ b0 ∷ s_passive inf ((3, Some 0, Some 0) ∷ []) ∷ []) [] ∷ refuses 4 ∷ ran 1 [] 0 0 ∷ [])
+    (c0 ∷ c0 ∷ b0 ∷ s_passive inf ((3, Some 0, Some 0) ∷ []) ∷ []) []
 unfolding play
 case-277 = refl
 
@@ -34,8 +33,8 @@ pub case-278 :
     (0x4028b0a3d70a3d71 ∷ 0x0011fa182c40c60d ∷ 0x3fd2492492492492 ∷ 0x0011fa182c40c60d ∷ 0x4028b0a3d70a3d71 ∷ 0x401c000000000000 ∷ 0x3fd3333333333333 ∷ [])
     (job 4 1 2 ∷ job 2 1 1 ∷ job 4 2 1 ∷ job 2 3 2 ∷ job 2 2 2 ∷ until 0x3ff0000000000000 0 ∷ look ∷ step ∷ look ∷ job 4 1 3 ∷ job 2 1 2 ∷ steps 1 ∷ look ∷ reset-global-time ∷ step ∷ look ∷ steps 2 ∷ look ∷ until 0x4024924924924925 504 ∷ look ∷ step ∷ look ∷ until 0x402db0a3d70a3d71 1 ∷ [])
     ≡ seen
-    (spent 0 [] 0 0 ∷ holds (s0 ∷ c0 ∷ p0 ∷ c0 ∷ p0 ∷ c0 ∷ []) ((0, 0, 4, 1, 0, 2) ∷ (0, 0, 2, 1, 0, 1) ∷ (0, 0, 4, 2, 0, 1) ∷ (0, 0, 2, 3, 0, 2) ∷ (0, 0, 2, 2, 0, 2) ∷ []) ∷ ran 1 [] 0 2 ∷ holds (s_passive inf ((1, some 0, none) ∷ (2, none, some 0) ∷ []) ∷ c0 ∷ p_active 0x4028b0a3d70a3d71 (2 ∷ 2 ∷ []) ∷ c0 ∷ p_active 0x0011fa182c40c60d (1 ∷ []) ∷ c0 ∷ []) [] ∷ ran 1 [] 0 2 ∷ holds (s_passive inf ((1, some 0, none) ∷ (2, some 0, some 0) ∷ []) ∷ c0 ∷ p_active 0x4028b0a3d70a3d71 (2 ∷ 2 ∷ []) ∷ c0 ∷ p_active 0x0011fa182c40c60d (1 ∷ []) ∷ c0 ∷ []) [] ∷ ran 1 [] 0x0011fa182c40c60d 2 ∷ holds (s_passive inf ((1, some 0, none) ∷ (2, some 0, some 0) ∷ []) ∷ c0 ∷ p_active 0x4028b0a3d70a3d71 (2 ∷ 2 ∷ []) ∷ parks ((98, 4, 1) ∷ (5, 1, 1) ∷ (5, 1, 1) ∷ []) ∷ p_passive 0 [] ∷ c0 ∷ []) [] ∷ ran 2 [] 0x3fd2492492492492 3 ∷ holds (s_passive inf ((1, some 0, none) ∷ (2, some 0, some 0) ∷ []) ∷ c0 ∷ p_active 0x40281e5ab277f44c (2 ∷ 2 ∷ []) ∷ parks ((98, 4, 1) ∷ (5, 1, 1) ∷ (5, 1, 1) ∷ []) ∷ p_passive 0 (1 ∷ []) ∷ c0 ∷ []) [] ∷ reached 4 [] 0x4028b0a3d70a3d71 5 ∷ holds (s_passive inf ((1, some 0, none) ∷ (2, some 0, some 0) ∷ []) ∷ parks ((98, 4, 2) ∷ []) ∷ p_passive 0 (2 ∷ []) ∷ c0 ∷ p_active 0x3fd24924924924a0 (1 ∷ 1 ∷ 1 ∷ 1 ∷ []) ∷ c0 ∷ []) ((4, 2, 2, 1, 0x4028b0a3d70a3d71, 2) ∷ []) ∷ ran 1 [] 0x4028b0a3d70a3d71 6 ∷ holds (s_passive inf ((1, some 0, none) ∷ (2, some 0x4028b0a3d70a3d71, some 0) ∷ []) ∷ c0 ∷ p_active 0x401c000000000000 (2 ∷ []) ∷ c0 ∷ p_active 0x3fd24924924924a0 (1 ∷ 1 ∷ 1 ∷ 1 ∷ []) ∷ c0 ∷ []) [] ∷ spent 1 [] 0x402942ecfb9c8696 6 ∷ [])
-    (s_passive inf ((1, some 0, none) ∷ (2, some 0x4028b0a3d70a3d71, some 0) ∷ []) ∷ c0 ∷ p_active 0x401adb6db6db6db6 (2 ∷ []) ∷ parks ((98, 4, 1) ∷ (5, 1, 1) ∷ (5, 1, 1) ∷ []) ∷ p_passive 0 (1 ∷ 1 ∷ 1 ∷ []) ∷ c0 ∷ []) []
+    (spent 0 [] 0 0 ∷ holds (s0 ∷ c0 ∷ p0 ∷ c0 ∷ p0 ∷ c0 ∷ []) ((0, 0, 4, 1, 0, 2) ∷ (0, 0, 2, 1, 0, 1) ∷ (0, 0, 4, 2, 0, 1) ∷ (0, 0, 2, 3, 0, 2) ∷ (0, 0, 2, 2, 0, 2) ∷ []) ∷ ran 1 [] 0 2 ∷ holds (s_passive inf ((1, Some 0, None) ∷ (2, None, Some 0) ∷ []) ∷ c0 ∷ p_active 0x4028b0a3d70a3d71 (2 ∷ 2 ∷ []) ∷ c0 ∷ p_active 0x0011fa182c40c60d (1 ∷ []) ∷ c0 ∷ []) [] ∷ ran 1 [] 0 2 ∷ holds (s_passive inf ((1, Some 0, None) ∷ (2, Some 0, Some 0) ∷ []) ∷ c0 ∷ p_active 0x4028b0a3d70a3d71 (2 ∷ 2 ∷ []) ∷ c0 ∷ p_active 0x0011fa182c40c60d (1 ∷ []) ∷ c0 ∷ []) [] ∷ ran 1 [] 0x0011fa182c40c60d 2 ∷ holds (s_passive inf ((1, Some 0, None) ∷ (2, Some 0, Some 0) ∷ []) ∷ c0 ∷ p_active 0x4028b0a3d70a3d71 (2 ∷ 2 ∷ []) ∷ parks ((98, 4, 1) ∷ (5, 1, 1) ∷ (5, 1, 1) ∷ []) ∷ p_passive 0 [] ∷ c0 ∷ []) [] ∷ ran 2 [] 0x3fd2492492492492 3 ∷ holds (s_passive inf ((1, Some 0, None) ∷ (2, Some 0, Some 0) ∷ []) ∷ c0 ∷ p_active 0x40281e5ab277f44c (2 ∷ 2 ∷ []) ∷ parks ((98, 4, 1) ∷ (5, 1, 1) ∷ (5, 1, 1) ∷ []) ∷ p_passive 0 (1 ∷ []) ∷ c0 ∷ []) [] ∷ reached 4 [] 0x4028b0a3d70a3d71 5 ∷ holds (s_passive inf ((1, Some 0, None) ∷ (2, Some 0, Some 0) ∷ []) ∷ parks ((98, 4, 2) ∷ []) ∷ p_passive 0 (2 ∷ []) ∷ c0 ∷ p_active 0x3fd24924924924a0 (1 ∷ 1 ∷ 1 ∷ 1 ∷ []) ∷ c0 ∷ []) ((4, 2, 2, 1, 0x4028b0a3d70a3d71, 2) ∷ []) ∷ ran 1 [] 0x4028b0a3d70a3d71 6 ∷ holds (s_passive inf ((1, Some 0, None) ∷ (2, Some 0x4028b0a3d70a3d71, Some 0) ∷ []) ∷ c0 ∷ p_active 0x401c000000000000 (2 ∷ []) ∷ c0 ∷ p_active 0x3fd24924924924a0 (1 ∷ 1 ∷ 1 ∷ 1 ∷ []) ∷ c0 ∷ []) [] ∷ spent 1 [] 0x402942ecfb9c8696 6 ∷ [])
+    (s_passive inf ((1, Some 0, None) ∷ (2, Some 0x4028b0a3d70a3d71, Some 0) ∷ []) ∷ c0 ∷ p_active 0x401adb6db6db6db6 (2 ∷ []) ∷ parks ((98, 4, 1) ∷ (5, 1, 1) ∷ (5, 1, 1) ∷ []) ∷ p_passive 0 (1 ∷ 1 ∷ 1 ∷ []) ∷ c0 ∷ []) []
 unfolding play
 case-278 = refl
 
@@ -56,8 +55,8 @@ pub case-280 :
     (0x3fd3333333333333 ∷ [])
     (job 1 2 2 ∷ inject 5 3 1 1 0 2 ∷ steps 1 ∷ look ∷ job 1 1 2 ∷ until 0 2 ∷ look ∷ inject 0 0 1 3 0x3fb999999999999a 2 ∷ inject 0 0 1 3 0x4028b0a3d70a3d71 2 ∷ steps 1 ∷ look ∷ until 0x4010000000000000 9 ∷ [])
     ≡ seen
-    (ran 1 [] 0 0 ∷ holds (s_passive inf ((2, some 0, some 0) ∷ []) ∷ []) [] ∷ reached 1 [] 0 0 ∷ holds (s_passive inf ((2, some 0, some 0) ∷ []) ∷ []) [] ∷ ran 1 ((1, 2, 1, 1, 0, 2) ∷ (1, 2, 1, 2, 0, 2) ∷ (1, 2, 1, 3, 0, 2) ∷ (1, 2, 1, 3, 0, 2) ∷ (1, 2, 99, 2, 0, 2) ∷ (1, 2, 1, 2, 0, 2) ∷ []) 0 0 ∷ holds (s_passive inf ((2, some 0, some 0) ∷ []) ∷ []) ((1, 2, 1, 1, 0, 2) ∷ (1, 2, 1, 2, 0, 2) ∷ (1, 2, 1, 3, 0, 2) ∷ (1, 2, 1, 3, 0, 2) ∷ (1, 2, 99, 2, 0, 2) ∷ (1, 2, 1, 2, 0, 2) ∷ []) ∷ spent 9 ((1, 2, 1, 1, 0, 2) ∷ (1, 2, 1, 2, 0, 2) ∷ (1, 2, 1, 3, 0, 2) ∷ (1, 2, 1, 3, 0, 2) ∷ (1, 2, 99, 2, 0, 2) ∷ (1, 2, 1, 2, 0, 2) ∷ (1, 2, 1, 1, 0, 2) ∷ (1, 2, 1, 2, 0, 2) ∷ (1, 2, 1, 3, 0, 2) ∷ (1, 2, 1, 3, 0, 2) ∷ (1, 2, 99, 2, 0, 2) ∷ (1, 2, 1, 2, 0, 2) ∷ (1, 2, 1, 1, 0, 2) ∷ (1, 2, 1, 2, 0, 2) ∷ (1, 2, 1, 3, 0, 2) ∷ (1, 2, 1, 3, 0, 2) ∷ (1, 2, 99, 2, 0, 2) ∷ (1, 2, 1, 2, 0, 2) ∷ (1, 2, 1, 1, 0, 2) ∷ (1, 2, 1, 2, 0, 2) ∷ (1, 2, 1, 3, 0, 2) ∷ (1, 2, 1, 3, 0, 2) ∷ (1, 2, 99, 2, 0, 2) ∷ (1, 2, 1, 2, 0, 2) ∷ (1, 2, 1, 1, 0, 2) ∷ (1, 2, 1, 2, 0, 2) ∷ (1, 2, 1, 3, 0, 2) ∷ (1, 2, 1, 3, 0, 2) ∷ (1, 2, 99, 2, 0, 2) ∷ (1, 2, 1, 2, 0, 2) ∷ (1, 2, 1, 1, 0, 2) ∷ (1, 2, 1, 2, 0, 2) ∷ (1, 2, 1, 3, 0, 2) ∷ (1, 2, 1, 3, 0, 2) ∷ (1, 2, 99, 2, 0, 2) ∷ (1, 2, 1, 2, 0, 2) ∷ (1, 2, 1, 1, 0, 2) ∷ (1, 2, 1, 2, 0, 2) ∷ (1, 2, 1, 3, 0, 2) ∷ (1, 2, 1, 3, 0, 2) ∷ (1, 2, 99, 2, 0, 2) ∷ (1, 2, 1, 2, 0, 2) ∷ (1, 2, 1, 1, 0, 2) ∷ (1, 2, 1, 2, 0, 2) ∷ (1, 2, 1, 3, 0, 2) ∷ (1, 2, 1, 3, 0, 2) ∷ (1, 2, 99, 2, 0, 2) ∷ (1, 2, 1, 2, 0, 2) ∷ (1, 2, 1, 1, 0, 2) ∷ (1, 2, 1, 2, 0, 2) ∷ (1, 2, 1, 3, 0, 2) ∷ (1, 2, 1, 3, 0, 2) ∷ (1, 2, 99, 2, 0, 2) ∷ (1, 2, 1, 2, 0, 2) ∷ []) 0 0 ∷ [])
-    (s_passive inf ((2, some 0, some 0) ∷ []) ∷ []) ((1, 2, 1, 1, 0, 2) ∷ (1, 2, 1, 2, 0, 2) ∷ (1, 2, 1, 3, 0, 2) ∷ (1, 2, 1, 3, 0, 2) ∷ (1, 2, 99, 2, 0, 2) ∷ (1, 2, 1, 2, 0, 2) ∷ [])
+    (ran 1 [] 0 0 ∷ holds (s_passive inf ((2, Some 0, Some 0) ∷ []) ∷ []) [] ∷ reached 1 [] 0 0 ∷ holds (s_passive inf ((2, Some 0, Some 0) ∷ []) ∷ []) [] ∷ ran 1 ((1, 2, 1, 1, 0, 2) ∷ (1, 2, 1, 2, 0, 2) ∷ (1, 2, 1, 3, 0, 2) ∷ (1, 2, 1, 3, 0, 2) ∷ (1, 2, 99, 2, 0, 2) ∷ (1, 2, 1, 2, 0, 2) ∷ []) 0 0 ∷ holds (s_passive inf ((2, Some 0, Some 0) ∷ []) ∷ []) ((1, 2, 1, 1, 0, 2) ∷ (1, 2, 1, 2, 0, 2) ∷ (1, 2, 1, 3, 0, 2) ∷ (1, 2, 1, 3, 0, 2) ∷ (1, 2, 99, 2, 0, 2) ∷ (1, 2, 1, 2, 0, 2) ∷ []) ∷ spent 9 ((1, 2, 1, 1, 0, 2) ∷ (1, 2, 1, 2, 0, 2) ∷ (1, 2, 1, 3, 0, 2) ∷ (1, 2, 1, 3, 0, 2) ∷ (1, 2, 99, 2, 0, 2) ∷ (1, 2, 1, 2, 0, 2) ∷ (1, 2, 1, 1, 0, 2) ∷ (1, 2, 1, 2, 0, 2) ∷ (1, 2, 1, 3, 0, 2) ∷ (1, 2, 1, 3, 0, 2) ∷ (1, 2, 99, 2, 0, 2) ∷ (1, 2, 1, 2, 0, 2) ∷ (1, 2, 1, 1, 0, 2) ∷ (1, 2, 1, 2, 0, 2) ∷ (1, 2, 1, 3, 0, 2) ∷ (1, 2, 1, 3, 0, 2) ∷ (1, 2, 99, 2, 0, 2) ∷ (1, 2, 1, 2, 0, 2) ∷ (1, 2, 1, 1, 0, 2) ∷ (1, 2, 1, 2, 0, 2) ∷ (1, 2, 1, 3, 0, 2) ∷ (1, 2, 1, 3, 0, 2) ∷ (1, 2, 99, 2, 0, 2) ∷ (1, 2, 1, 2, 0, 2) ∷ (1, 2, 1, 1, 0, 2) ∷ (1, 2, 1, 2, 0, 2) ∷ (1, 2, 1, 3, 0, 2) ∷ (1, 2, 1, 3, 0, 2) ∷ (1, 2, 99, 2, 0, 2) ∷ (1, 2, 1, 2, 0, 2) ∷ (1, 2, 1, 1, 0, 2) ∷ (1, 2, 1, 2, 0, 2) ∷ (1, 2, 1, 3, 0, 2) ∷ (1, 2, 1, 3, 0, 2) ∷ (1, 2, 99, 2, 0, 2) ∷ (1, 2, 1, 2, 0, 2) ∷ (1, 2, 1, 1, 0, 2) ∷ (1, 2, 1, 2, 0, 2) ∷ (1, 2, 1, 3, 0, 2) ∷ (1, 2, 1, 3, 0, 2) ∷ (1, 2, 99, 2, 0, 2) ∷ (1, 2, 1, 2, 0, 2) ∷ (1, 2, 1, 1, 0, 2) ∷ (1, 2, 1, 2, 0, 2) ∷ (1, 2, 1, 3, 0, 2) ∷ (1, 2, 1, 3, 0, 2) ∷ (1, 2, 99, 2, 0, 2) ∷ (1, 2, 1, 2, 0, 2) ∷ (1, 2, 1, 1, 0, 2) ∷ (1, 2, 1, 2, 0, 2) ∷ (1, 2, 1, 3, 0, 2) ∷ (1, 2, 1, 3, 0, 2) ∷ (1, 2, 99, 2, 0, 2) ∷ (1, 2, 1, 2, 0, 2) ∷ []) 0 0 ∷ [])
+    (s_passive inf ((2, Some 0, Some 0) ∷ []) ∷ []) ((1, 2, 1, 1, 0, 2) ∷ (1, 2, 1, 2, 0, 2) ∷ (1, 2, 1, 3, 0, 2) ∷ (1, 2, 1, 3, 0, 2) ∷ (1, 2, 99, 2, 0, 2) ∷ (1, 2, 1, 2, 0, 2) ∷ [])
 unfolding play
 case-280 = refl
 
@@ -155,8 +154,8 @@ pub case-289 :
     (0x3fb999999999999a ∷ 0 ∷ [])
     (job 8 1 1 ∷ step ∷ look ∷ steps 3 ∷ look ∷ job 7 1 1 ∷ job 8 1 2 ∷ until 0x401c666666666666 1 ∷ [])
     ≡ seen
-    (ran 1 ((8, 1, 7, 2, 0, 1) ∷ (8, 1, 7, 4, 0, 1) ∷ (8, 1, 7, 4, 0, 1) ∷ (8, 1, 7, 4, 0, 1) ∷ []) 0 1 ∷ holds (c0 ∷ p0 ∷ p0 ∷ p0 ∷ p_active 0x3fb999999999999a (1 ∷ []) ∷ b0 ∷ s0 ∷ []) ((8, 1, 7, 2, 0, 1) ∷ (8, 1, 7, 4, 0, 1) ∷ (8, 1, 7, 4, 0, 1) ∷ (8, 1, 7, 4, 0, 1) ∷ []) ∷ ran 3 [] 0x3fb999999999999a 1 ∷ holds (c0 ∷ p0 ∷ p0 ∷ p0 ∷ p0 ∷ b0 ∷ s_passive inf ((1, some 0, none) ∷ []) ∷ []) [] ∷ spent 1 ((8, 1, 7, 2, 0x3fb999999999999a, 2) ∷ (8, 1, 7, 4, 0x3fb999999999999a, 2) ∷ (8, 1, 7, 4, 0x3fb999999999999a, 2) ∷ (8, 1, 7, 4, 0x3fb999999999999a, 2) ∷ []) 0x3fb999999999999a 2 ∷ [])
-    (c0 ∷ p0 ∷ p0 ∷ p0 ∷ p_passive 0 [] ∷ b0 ∷ s_passive inf ((1, some 0, some 0x3fb999999999999a) ∷ []) ∷ []) ((8, 1, 7, 2, 0x3fb999999999999a, 2) ∷ (8, 1, 7, 4, 0x3fb999999999999a, 2) ∷ (8, 1, 7, 4, 0x3fb999999999999a, 2) ∷ (8, 1, 7, 4, 0x3fb999999999999a, 2) ∷ [])
+    (ran 1 ((8, 1, 7, 2, 0, 1) ∷ (8, 1, 7, 4, 0, 1) ∷ (8, 1, 7, 4, 0, 1) ∷ (8, 1, 7, 4, 0, 1) ∷ []) 0 1 ∷ holds (c0 ∷ p0 ∷ p0 ∷ p0 ∷ p_active 0x3fb999999999999a (1 ∷ []) ∷ b0 ∷ s0 ∷ []) ((8, 1, 7, 2, 0, 1) ∷ (8, 1, 7, 4, 0, 1) ∷ (8, 1, 7, 4, 0, 1) ∷ (8, 1, 7, 4, 0, 1) ∷ []) ∷ ran 3 [] 0x3fb999999999999a 1 ∷ holds (c0 ∷ p0 ∷ p0 ∷ p0 ∷ p0 ∷ b0 ∷ s_passive inf ((1, Some 0, None) ∷ []) ∷ []) [] ∷ spent 1 ((8, 1, 7, 2, 0x3fb999999999999a, 2) ∷ (8, 1, 7, 4, 0x3fb999999999999a, 2) ∷ (8, 1, 7, 4, 0x3fb999999999999a, 2) ∷ (8, 1, 7, 4, 0x3fb999999999999a, 2) ∷ []) 0x3fb999999999999a 2 ∷ [])
+    (c0 ∷ p0 ∷ p0 ∷ p0 ∷ p_passive 0 [] ∷ b0 ∷ s_passive inf ((1, Some 0, Some 0x3fb999999999999a) ∷ []) ∷ []) ((8, 1, 7, 2, 0x3fb999999999999a, 2) ∷ (8, 1, 7, 4, 0x3fb999999999999a, 2) ∷ (8, 1, 7, 4, 0x3fb999999999999a, 2) ∷ (8, 1, 7, 4, 0x3fb999999999999a, 2) ∷ [])
 unfolding play
 case-289 = refl
 
@@ -232,8 +231,8 @@ pub case-296 :
     (0x3fd5555555555555 ∷ [])
     (job 2 1 3 ∷ job 1 4 1 ∷ inject 0 0 8 4 0x3fb999999999999a 1 ∷ job 3 1 2 ∷ job 8 4 3 ∷ steps 2 ∷ look ∷ job 6 1 3 ∷ job 2 1 1 ∷ step ∷ [])
     ≡ seen
-    (ran 2 ((2, 1, 8, 4, 0x3fd5555555555555, 3) ∷ (2, 1, 6, 1, 0x3fd5555555555555, 3) ∷ (2, 1, 3, 3, 0x3fd5555555555555, 3) ∷ (2, 1, 3, 1, 0x3fd5555555555555, 3) ∷ []) 0x3fd5555555555555 1 ∷ holds (p_passive 0 [] ∷ s_passive inf ((1, none, some 0) ∷ (3, none, some 0) ∷ []) ∷ p0 ∷ s0 ∷ b_batching 0x3fd7777777777777 (1 ∷ []) ∷ []) ((2, 1, 8, 4, 0x3fd5555555555555, 3) ∷ (2, 1, 6, 1, 0x3fd5555555555555, 3) ∷ (2, 1, 3, 3, 0x3fd5555555555555, 3) ∷ (2, 1, 3, 1, 0x3fd5555555555555, 3) ∷ []) ∷ stopped 9 0 [] 0x3fd5555555555555 1 ∷ [])
-    (p_passive 0 [] ∷ s_passive inf ((1, none, some 0) ∷ (3, none, some 0) ∷ []) ∷ p0 ∷ s0 ∷ b_batching 0x3fd7777777777777 (1 ∷ []) ∷ []) ((2, 1, 8, 4, 0x3fd5555555555555, 3) ∷ (2, 1, 6, 1, 0x3fd5555555555555, 3) ∷ (2, 1, 3, 3, 0x3fd5555555555555, 3) ∷ (2, 1, 3, 1, 0x3fd5555555555555, 3) ∷ (0, 0, 6, 1, 0, 3) ∷ (0, 0, 2, 1, 0, 1) ∷ [])
+    (ran 2 ((2, 1, 8, 4, 0x3fd5555555555555, 3) ∷ (2, 1, 6, 1, 0x3fd5555555555555, 3) ∷ (2, 1, 3, 3, 0x3fd5555555555555, 3) ∷ (2, 1, 3, 1, 0x3fd5555555555555, 3) ∷ []) 0x3fd5555555555555 1 ∷ holds (p_passive 0 [] ∷ s_passive inf ((1, None, Some 0) ∷ (3, None, Some 0) ∷ []) ∷ p0 ∷ s0 ∷ b_batching 0x3fd7777777777777 (1 ∷ []) ∷ []) ((2, 1, 8, 4, 0x3fd5555555555555, 3) ∷ (2, 1, 6, 1, 0x3fd5555555555555, 3) ∷ (2, 1, 3, 3, 0x3fd5555555555555, 3) ∷ (2, 1, 3, 1, 0x3fd5555555555555, 3) ∷ []) ∷ stopped 9 0 [] 0x3fd5555555555555 1 ∷ [])
+    (p_passive 0 [] ∷ s_passive inf ((1, None, Some 0) ∷ (3, None, Some 0) ∷ []) ∷ p0 ∷ s0 ∷ b_batching 0x3fd7777777777777 (1 ∷ []) ∷ []) ((2, 1, 8, 4, 0x3fd5555555555555, 3) ∷ (2, 1, 6, 1, 0x3fd5555555555555, 3) ∷ (2, 1, 3, 3, 0x3fd5555555555555, 3) ∷ (2, 1, 3, 1, 0x3fd5555555555555, 3) ∷ (0, 0, 6, 1, 0, 3) ∷ (0, 0, 2, 1, 0, 1) ∷ [])
 unfolding play
 case-296 = refl
 
@@ -266,7 +265,7 @@ pub case-299 :
     (job 4096 1 1 ∷ step ∷ look ∷ inject 5 3 1 1 0 2 ∷ step ∷ look ∷ job 97 1 1 ∷ job 32768 1 2 ∷ steps 1 ∷ look ∷ steps 3 ∷ [])
     ≡ seen
     (ran 1 [] 0 0 ∷ holds (p0 ∷ p0 ∷ b0 ∷ s0 ∷ s0 ∷ s0 ∷ []) [] ∷ ran 1 [] 0 1 ∷ holds (p0 ∷ p_active 0x3e112e0be826d695 (2 ∷ []) ∷ b0 ∷ s0 ∷ s0 ∷ s0 ∷ []) [] ∷ ran 1 [] 0 2 ∷ holds (p_active 0x3fe6666666666666 (2 ∷ []) ∷ p_active 0x3e112e0be826d695 (2 ∷ []) ∷ b0 ∷ s0 ∷ s0 ∷ s0 ∷ []) [] ∷ ran 3 ((1, 2, 99, 4, 0x3e112e0be826d695, 2) ∷ (1, 2, 4096, 2, 0x3e112e0be826d695, 2) ∷ (32768, 1, 32768, 1, 0x3fe6666666666666, 2) ∷ (32768, 1, 257, 3, 0x3fe6666666666666, 2) ∷ []) 0x3fe6666666666666 2 ∷ [])
-    (p_passive 0 [] ∷ p0 ∷ b0 ∷ s0 ∷ s_passive inf ((2, some 0x3e112e0be826d695, none) ∷ []) ∷ s0 ∷ []) ((32768, 1, 32768, 1, 0x3fe6666666666666, 2) ∷ (32768, 1, 257, 3, 0x3fe6666666666666, 2) ∷ [])
+    (p_passive 0 [] ∷ p0 ∷ b0 ∷ s0 ∷ s_passive inf ((2, Some 0x3e112e0be826d695, None) ∷ []) ∷ s0 ∷ []) ((32768, 1, 32768, 1, 0x3fe6666666666666, 2) ∷ (32768, 1, 257, 3, 0x3fe6666666666666, 2) ∷ [])
 unfolding play
 case-299 = refl
 

@@ -1,10 +1,9 @@
 -- The laws of new rows: their words by the number of their kind; that they are the rules' fresh ones for a table that passed; and so the words of a state with new rows. Assumes nothing.
 use Prim.Native.Nat.{ℕ, zero, suc, ◌+◌, ◌-◌, ◌*◌, ◌/◌, ◌≤◌, ◌<◌}
-use Rattle.std.specs.Prelude.{◌≡◌, refl, Bool, true, false, get_or, eqb, Float, if◌then◌else◌}
+use Rattle.std.specs.Prelude.{◌≡◌, refl, Bool, true, false, get_or, eqb, Float, if◌then◌else◌, Option, None, Some}
 use Rattle.std.proofs.Common.{sym, ◌∙◌, zero-add, add-zero, suc-add, zero-mul, add-one, arith, eqb-true, ext_get_or}
 use Rattle.std.proofs.Math.Path.{ap}
 use mathlib.Core.List.{List, [], ◌∷◌, ◌++◌, append_assoc}
-use Rattle.std.proofs.Math.Option.{Option, none, some}
 use Rattle.std.proofs.Math.Nat.{sub-zero}
 use Rattle.std.proofs.Math.ListN.{length, get_or-map}
 use Rattle.std.proofs.lemmas.List.{length-map}
@@ -121,8 +120,8 @@ module _ (models : List ℕ) (rows at : ℕ) (before : List ℕ) where
   pub all_laid : (row begin : ℕ) (now : List ℕ) → Underway row begin now → rows ≤ row
       → (begin ≡ head_at rows + widths (new_from models 0 rows)) × (now ≡ laid at (heads (head_at rows) (new_from models 0 rows)) before)
   all_laid row begin now u l =
-      let none : rows - row ≡ 0 = omega arith in
-      let gone : new_from models row (rows - row) ≡ [] = ap (new_from models row) none in
+      let None : rows - row ≡ 0 = omega arith in
+      let gone : new_from models row (rows - row) ≡ [] = ap (new_from models row) None in
       let h = u.ends in
       let w = ap widths gone in
       (omega arith, sym (laid_none (at + row * 4) now) ∙ ap (λ (ss : List State). laid (at + row * 4) (heads begin ss) now) (sym gone) ∙ u.lays)
@@ -133,21 +132,21 @@ heads-long begin (s ∷ ss) = let h = heads-long (begin + own_width s) ss in ome
 
 -- ---- what the number of a row's kind says, where the row says a kind
 abbrev fresh_or : Option Kind → State
-fresh_or none = of_coupled []
-fresh_or (some k) = fresh k
+fresh_or None = of_coupled []
+fresh_or (Some k) = fresh k
 
-number_read : (row : List ℕ) (k : Kind) → kind_in row ≡ some k → numbered (cell row 1) ≡ fresh k
+number_read : (row : List ℕ) (k : Kind) → kind_in row ≡ Some k → numbered (cell row 1) ≡ fresh k
 number_read row k = go (eqb (cell row 1) 1) (eqb (cell row 1) 2) (eqb (cell row 1) 3) (eqb (cell row 1) 4) refl refl refl refl
   where
-    watch : (o : Option Metric) → stopwatch_in row o ≡ some k → of_stopwatch fresh_stopwatch ≡ fresh k
-    watch none e = absurd (no-some e)
-    watch (some m) e = ap fresh_or e
+    watch : (o : Option Metric) → stopwatch_in row o ≡ Some k → of_stopwatch fresh_stopwatch ≡ fresh k
+    watch None e = absurd (no-some e)
+    watch (Some m) e = ap fresh_or e
 
     go : (a b c d : Bool) → eqb (cell row 1) 1 ≡ a → eqb (cell row 1) 2 ≡ b → eqb (cell row 1) 3 ≡ c → eqb (cell row 1) 4 ≡ d
-        → (if a then some (processor (record { input = cell row 4; output = cell row 7; queue_capacity = capacity_in row }))
-        else if b then some (batcher (record { input = cell row 4; output = cell row 7; max_batch_size = cell row 8; max_batch_time = of_bits binary64 (cell row 9) }))
+        → (if a then Some (processor (record { input = cell row 4; output = cell row 7; queue_capacity = capacity_in row }))
+        else if b then Some (batcher (record { input = cell row 4; output = cell row 7; max_batch_size = cell row 8; max_batch_time = of_bits binary64 (cell row 9) }))
         else if c then stopwatch_in row (metric_in row)
-        else if d then some coupled else none) ≡ some k
+        else if d then Some coupled else None) ≡ Some k
         → numbered (cell row 1) ≡ fresh k
     go true b c d ea eb ec ed e = ap numbered (eqb-true (cell row 1) 1 ea) ∙ ap fresh_or e
     go false true c d ea eb ec ed e = ap numbered (eqb-true (cell row 1) 2 eb) ∙ ap fresh_or e

@@ -1,10 +1,9 @@
 -- A3 of document 02: what is parked is not stranded. While a message is parked anywhere, no step is refused with 12. In the next step that is not refused, a Coupled that holds a message has its internal event, with its list as it was and without time passing; in it each message that is parked for a component comes to that component, once and in 01's order. And a run that ends with 12 leaves nothing parked. Assumes nothing.
 use Prim.Native.Nat.{ℕ, zero, suc, ◌+◌, ◌-◌, ◌≤◌, ◌<◌}
-use Rattle.std.specs.Prelude.{◌≡◌, ◌⊎◌, Bool, set, T, leb, Float, if◌then◌else◌}
+use Rattle.std.specs.Prelude.{◌≡◌, ◌⊎◌, Bool, set, T, leb, Float, if◌then◌else◌, Some}
 use Rattle.std.proofs.Math.Path.{refl, sym, ap, subst}
 use Rattle.std.proofs.Common.{◌∙◌, inl, inr, arith, eq-or-lt_of_le, T_not}
 use Rattle.std.proofs.Math.Bool.{true, false, not}
-use Rattle.std.proofs.Math.Option.{some}
 use mathlib.Core.List.{List, [], ◌∷◌, ◌++◌, map, append_assoc, append-nil}
 use Rattle.std.proofs.Math.ListN.{length, length-set}
 use Rattle.std.proofs.Math.Seq.{get_or-set_same}
@@ -135,7 +134,7 @@ module _ (t : Table) (services : List Float) (clock : Float) (ok : Fine t) where
   one_parent {k} {m} {r} l n p q =
       let e = tells (parent-decides (id_at t k) (row_at t r).parent) p.1 in
       let f = tells (parent-decides (id_at t m) (row_at t r).parent) q.1 in
-      let g : some (id_at t k) ≡ some (id_at t m) = sym e ∙ f in
+      let g : Some (id_at t k) ≡ Some (id_at t m) = sym e ∙ f in
       ok.unique k m l n cc
 
   -- of the rows of one depth a row is under one alone

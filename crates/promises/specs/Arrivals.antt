@@ -1,11 +1,10 @@
 -- What is sent to a batcher is accepted: a step that is not refused has a parentless batcher accept every active message with its id, in list order, and nothing else. Assumes nothing.
 use Prim.Native.Nat.{ℕ, zero, suc, ◌+◌, ◌≤◌, ◌<◌}
-use Rattle.std.specs.Prelude.{◌≡◌, Bool, not, length, get_or, Float, if◌then◌else◌}
+use Rattle.std.specs.Prelude.{◌≡◌, Bool, not, length, get_or, Float, if◌then◌else◌, Option, None, Some}
 use Rattle.std.proofs.Math.Path.{refl, sym, ap, subst}
 use Rattle.std.proofs.Common.{◌∙◌, arith, eqb→eq}
 use Rattle.std.proofs.Math.Bool.{true, false}
 use mathlib.Core.List.{List, [], ◌∷◌, ◌++◌, map, append_assoc, append-nil}
-use Rattle.std.proofs.Math.Option.{Option, none, some}
 use Rattle.std.proofs.Math.Dec.{T, eqb, eqb_refl, T_not}
 use Rattle.rules.specs.declared.Refusal.TheVariants.{NoMessageRoom}
 use Rattle.rules.specs.declared.Batcher.{Batcher}
@@ -44,8 +43,8 @@ module _ (t : Table) (services : List Float) (row : ℕ) (alone : T (is_parentle
       (λ i _ p e. go (row_at t row).parent alone (subst (λ (z : ℕ). T (is_parent owner (row_at t z).parent)) (sym e) p))
     where
       go : (o : Option ℕ) → T (is_parentless o) → T (is_parent owner o) → ⊥
-      go none a p = p
-      go (some q) a p = a
+      go None a p = p
+      go (Some q) a p = a
 
   came-still : (clock : Float) (i port content : ℕ) (fate : Fate) (xs : List ℕ) (w : World) → Else i → Has xs w → Has xs (noted (came clock i port content fate) w)
   came-still clock i port content fate xs w n k = noted-still (came clock i port content fate) xs [] w (another-row row i (if was_kept fate then Accepted content ∷ [] else []) n) refl k

@@ -1,7 +1,6 @@
 -- What a row does to break each rule, in the words of the rules alone (rules/Layout, rules/Intake, rules/Decides). Definitions only. Assumes nothing.
-use Rattle.std.specs.Prelude.{ℕ, ◌≤◌, ◌<◌, ◌^◌, ◌≡◌, length, get_or, take, T}
+use Rattle.std.specs.Prelude.{ℕ, ◌≤◌, ◌<◌, ◌^◌, ◌≡◌, length, get_or, take, T, None, Some}
 use mathlib.Core.List.{List, [], map, reverse_aux}
-use Rattle.std.proofs.Math.Option.{none, some}
 use Rattle.times.specs.Time.{is_time}
 use Rattle.rules.specs.declared.Batcher.{Batcher}
 use Rattle.rules.specs.declared.Stopwatch.{Stopwatch}
@@ -40,21 +39,21 @@ pub data ModelBreaks (line : ℕ → List ℕ) (earlier : List Row) (k : ℕ) : 
   wide-id : Wide (line k) 0 → ModelBreaks line earlier k (ModelWide 0)
   wide-port : {c : ℕ} → 4 ≤ c → c ≤ 7 → Wide (line k) c → ModelBreaks line earlier k (ModelWide c)
   -- "`max_batch_size` is 1 to 2^62", "its batch time is no time"
-  batch-of-none : {b : Batcher} → kind_in (line k) ≡ some (batcher b) → b.max_batch_size ≡ 0 → ModelBreaks line earlier k BatchOfNone
-  large-batch : {b : Batcher} → kind_in (line k) ≡ some (batcher b) → largest_batch < b.max_batch_size → ModelBreaks line earlier k LargeBatch
-  no-batch-time : {b : Batcher} → kind_in (line k) ≡ some (batcher b) → (T (is_time b.max_batch_time) → ⊥) → ModelBreaks line earlier k NoBatchTime
+  batch-of-none : {b : Batcher} → kind_in (line k) ≡ Some (batcher b) → b.max_batch_size ≡ 0 → ModelBreaks line earlier k BatchOfNone
+  large-batch : {b : Batcher} → kind_in (line k) ≡ Some (batcher b) → largest_batch < b.max_batch_size → ModelBreaks line earlier k LargeBatch
+  no-batch-time : {b : Batcher} → kind_in (line k) ≡ Some (batcher b) → (T (is_time b.max_batch_time) → ⊥) → ModelBreaks line earlier k NoBatchTime
   -- "its metric neither of the two"
-  unknown-metric : cell (line k) 1 ≡ 3 → metric_in (line k) ≡ none → ModelBreaks line earlier k UnknownMetric
+  unknown-metric : cell (line k) 1 ≡ 3 → metric_in (line k) ≡ None → ModelBreaks line earlier k UnknownMetric
   -- "A stopwatch's three input ports differ."
-  start-is-stop : {w : Stopwatch} → kind_in (line k) ≡ some (stopwatch w) → w.start ≡ w.stop → ModelBreaks line earlier k StartIsStop
-  start-is-ask : {w : Stopwatch} → kind_in (line k) ≡ some (stopwatch w) → w.start ≡ w.ask → ModelBreaks line earlier k StartIsAsk
-  stop-is-ask : {w : Stopwatch} → kind_in (line k) ≡ some (stopwatch w) → w.stop ≡ w.ask → ModelBreaks line earlier k StopIsAsk
+  start-is-stop : {w : Stopwatch} → kind_in (line k) ≡ Some (stopwatch w) → w.start ≡ w.stop → ModelBreaks line earlier k StartIsStop
+  start-is-ask : {w : Stopwatch} → kind_in (line k) ≡ Some (stopwatch w) → w.start ≡ w.ask → ModelBreaks line earlier k StartIsAsk
+  stop-is-ask : {w : Stopwatch} → kind_in (line k) ≡ Some (stopwatch w) → w.stop ≡ w.ask → ModelBreaks line earlier k StopIsAsk
   -- "Ids are unique over the whole table."
   id-taken : {j : ℕ} → j < k → cell (line j) 0 ≡ cell (line k) 0 → ModelBreaks line earlier k (IdTaken j)
   -- "A component's row names its parent, which is an earlier row and a Coupled."
-  no-parent : {p : ℕ} → parent_in (line k) ≡ some p → (CoupledId earlier p → ⊥) → ModelBreaks line earlier k NoParent
+  no-parent : {p : ℕ} → parent_in (line k) ≡ Some p → (CoupledId earlier p → ⊥) → ModelBreaks line earlier k NoParent
   -- "A Coupled may hold another Coupled, to depth 4"
-  too-deep : kind_in (line k) ≡ some coupled → deepest < depth_of earlier (parent_in (line k)) → ModelBreaks line earlier k TooDeep
+  too-deep : kind_in (line k) ≡ Some coupled → deepest < depth_of earlier (parent_in (line k)) → ModelBreaks line earlier k TooDeep
 
 -- ---- 3: a connector, by its words
 pub data ConnectorBreaks (row : List ℕ) : Reason → Type 0 where
@@ -70,7 +69,7 @@ pub data CouplingBreaks (rows : List Row) (row : List ℕ) : Reason → Type 0 w
   -- "a coupling's owner is no Coupled"
   no-owner : (CoupledId rows (cell row 0) → ⊥) → CouplingBreaks rows row NoOwner
   -- "an external input coupling's target is not its component"
-  no-component : {owner sp target tp unused : ℕ} → coupling_in row ≡ some (external_input owner sp target tp, unused) → (ComponentOf rows owner target → ⊥) → CouplingBreaks rows row NoComponent
+  no-component : {owner sp target tp unused : ℕ} → coupling_in row ≡ Some (external_input owner sp target tp, unused) → (ComponentOf rows owner target → ⊥) → CouplingBreaks rows row NoComponent
 
 -- ---- a table: the reason is broken by the row that the verdict names, or by the part that is too large
 pub data Breaks (models connectors couplings : List ℕ) : Verdict → Reason → Type 0 where

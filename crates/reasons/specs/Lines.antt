@@ -1,8 +1,7 @@
 -- A connector and a coupling that intake refuses break the rule that is named. Assumes nothing.
-use Rattle.std.specs.Prelude.{ℕ, ◌/◌, ◌^◌, ◌≡◌, refl, Bool, true, false, ◌&&◌, List, length, T, eqb, if◌then◌else◌}
+use Rattle.std.specs.Prelude.{ℕ, ◌/◌, ◌^◌, ◌≡◌, refl, Bool, true, false, ◌&&◌, List, length, T, eqb, if◌then◌else◌, Some}
 use Rattle.std.proofs.Common.{sym, ◌∙◌, subst, arith}
 use Rattle.std.proofs.lemmas.Bool.{false≢true}
-use Rattle.std.proofs.Math.Option.{some}
 use borrow.Author.Tests.{leb-false, ltb-false, eqb-true, eqb-false}
 use Rattle.rules.specs.Base.{some_of}
 use Rattle.rules.specs.Table.{Row, is_coupled, is_parent}
@@ -53,7 +52,7 @@ module _ (models row : List ℕ) (rows : List Row) (same : (test : Row → Bool)
   target-breaks : (if eqb (cell row 1) 1 then is_component_of (all_in models) (cell row 0) (cell row 4) else true) ≡ false → P NoComponent
   target-breaks = go (eqb (cell row 1) 1) refl
     where
-      input : cell row 1 ≡ 1 → coupling_in row ≡ some (input_in row, cell row 2)
+      input : cell row 1 ≡ 1 → coupling_in row ≡ Some (input_in row, cell row 2)
       input e = rw e
 
       go : (b : Bool) → eqb (cell row 1) 1 ≡ b → (if b then is_component_of (all_in models) (cell row 0) (cell row 4) else true) ≡ false → P NoComponent

@@ -1,10 +1,9 @@
 -- A model row that intake refuses breaks the rule that is named: each test that fails breaks its rule, and where all pass the row would be kept. Assumes nothing.
-use Rattle.std.specs.Prelude.{ℕ, zero, suc, ◌/◌, ◌≤◌, ◌<◌, ◌^◌, ◌≡◌, Bool, List, length, if◌then◌else◌, None, Some}
+use Rattle.std.specs.Prelude.{ℕ, zero, suc, ◌/◌, ◌≤◌, ◌<◌, ◌^◌, ◌≡◌, Bool, List, length, if◌then◌else◌, None, Some, Option}
 use Rattle.std.proofs.Math.Path.{refl, ap, subst}
 use Rattle.std.proofs.Common.{sym, ◌∙◌}
 use Rattle.std.proofs.Math.Bool.{true, false, not}
 use Rattle.std.proofs.lemmas.Bool.{false≢true}
-use Rattle.std.proofs.Math.Option.{Option, none, some}
 use native.Mathlib.Omega.{arith}
 use borrow.Author.Tests.{leb-true, leb-false, ltb-false, eqb-true, eqb-false, ne_eqb, not-false}
 use Rattle.std.proofs.Math.Dec.{T, leb, eqb}
@@ -33,34 +32,34 @@ use Rattle.reasons.specs.CheckLaws.{Kept, named, wide-named}
 
 -- the metric that a word says, or Minimum where it is omitted
 abbrev metric_by : Bool → ℕ → Option Metric
-metric_by given w = if given then (if eqb w 0 then some Minimum else if eqb w 1 then some Maximum else none) else some Minimum
+metric_by given w = if given then (if eqb w 0 then Some Minimum else if eqb w 1 then Some Maximum else None) else Some Minimum
 
 equal : (m n : ℕ) → not (eqb m n) ≡ false → m ≡ n
 equal m n t = eqb-true m n (not-false (eqb m n) t)
 
 -- ---- what a row's words say of its kind
 module _ (row : List ℕ) where
-  batcher-in : cell row 1 ≡ 2 → kind_in row ≡ some (batcher_of (cell row 4) (cell row 7) (cell row 8) (cell row 9))
+  batcher-in : cell row 1 ≡ 2 → kind_in row ≡ Some (batcher_of (cell row 4) (cell row 7) (cell row 8) (cell row 9))
   batcher-in e = rw e
 
-  stopwatch-in : (m : Metric) → cell row 1 ≡ 3 → metric_in row ≡ some m → kind_in row ≡ some (stopwatch_of (cell row 4) (cell row 5) (cell row 6) (cell row 7) m)
+  stopwatch-in : (m : Metric) → cell row 1 ≡ 3 → metric_in row ≡ Some m → kind_in row ≡ Some (stopwatch_of (cell row 4) (cell row 5) (cell row 6) (cell row 7) m)
   stopwatch-in m e h = rw (e, h)
 
-  coupled-in : cell row 1 ≡ 4 → kind_in row ≡ some Table.coupled
+  coupled-in : cell row 1 ≡ 4 → kind_in row ≡ Some Table.coupled
   coupled-in e = rw e
 
   -- the metric's word, or 0 where it is omitted
-  metric-none : leb (setting_in 4 0 row) 1 ≡ false → metric_in row ≡ none
+  metric-none : leb (setting_in 4 0 row) 1 ≡ false → metric_in row ≡ None
   metric-none = go (is_given 4 row) (cell row 8)
     where
-      go : (given : Bool) (w : ℕ) → leb (if given then w else 0) 1 ≡ false → metric_by given w ≡ none
+      go : (given : Bool) (w : ℕ) → leb (if given then w else 0) 1 ≡ false → metric_by given w ≡ None
       go true w h = let l = leb-false w 1 h in rw (ne_eqb w 0 (λ e. omega arith), ne_eqb w 1 (λ e. omega arith))
       go false w h = absurd (false≢true (sym h))
 
-  metric-some : {C : Type 0} → leb (setting_in 4 0 row) 1 ≡ true → ((m : Metric) → metric_in row ≡ some m → C) → C
+  metric-some : {C : Type 0} → leb (setting_in 4 0 row) 1 ≡ true → ((m : Metric) → metric_in row ≡ Some m → C) → C
   metric-some {C} = go (is_given 4 row) (cell row 8)
     where
-      go : (given : Bool) (w : ℕ) → leb (if given then w else 0) 1 ≡ true → ((m : Metric) → metric_by given w ≡ some m → C) → C
+      go : (given : Bool) (w : ℕ) → leb (if given then w else 0) 1 ≡ true → ((m : Metric) → metric_by given w ≡ Some m → C) → C
       go true zero h f = f Minimum refl
       go true (suc zero) h f = f Maximum refl
       go true (suc (suc w)) h f = let l = leb-true (suc (suc w)) 1 h in absurd (omega arith)
@@ -80,7 +79,7 @@ module _ (row : List ℕ) where
   batcher-fits : cell row 1 ≡ 2 → Ports → All Kept (batcher_checks (cell row 8) (cell row 9)) → KindFits
   batcher-fits e (p4 & p5 & p6 & p7 & nil) (a & b & t & nil) = rw (e, p4, p7, a, b, t)
 
-  stopwatch-fits : (m : Metric) → cell row 1 ≡ 3 → metric_in row ≡ some m → Ports → All Kept (differ_checks row) → KindFits
+  stopwatch-fits : (m : Metric) → cell row 1 ≡ 3 → metric_in row ≡ Some m → Ports → All Kept (differ_checks row) → KindFits
   stopwatch-fits m e h (p4 & p5 & p6 & p7 & nil) (a & b & d & nil) = rw (e, h, p4, p5, p6, p7, a, b, d)
 
   coupled-fits : cell row 1 ≡ 4 → KindFits
@@ -94,7 +93,7 @@ module _ (models : List ℕ) (k : ℕ) (begins : k ≤ length models / model_wid
   abbrev P : Reason → Type 0
   P = ModelBreaks (row_of model_width models) (earlier_in models k) k
 
-  coupled-found : (p : ℕ) → parent_fits (earlier_in models k) (some p) ≡ parent_stands models k (some p)
+  coupled-found : (p : ℕ) → parent_fits (earlier_in models k) (Some p) ≡ parent_stands models k (Some p)
   coupled-found p = coupled-id-is models k p ∙ has-row models k p 1 4 begins (omega arith) refl
 
   parent_is : parent_joins models k ≡ parent_stands models k (parent_in row)
@@ -102,8 +101,8 @@ module _ (models : List ℕ) (k : ℕ) (begins : k ≤ length models / model_wid
   parent_is = go (parent_in row)
     where
       go : (o : Option ℕ) → parent_fits (earlier_in models k) o ≡ parent_stands models k o
-      go none = refl
-      go (some p) = coupled-found p
+      go None = refl
+      go (Some p) = coupled-found p
 
   -- a row that breaks none of the rules would be kept
   complete : All Kept (shape_checks row) → All Kept (widths ModelWide row 0 1) → Ports row → KindFits row
@@ -127,8 +126,8 @@ module _ (models : List ℕ) (k : ℕ) (begins : k ≤ length models / model_wid
   parent-breaks = go (parent_in row) refl
     where
       go : (o : Option ℕ) → parent_in row ≡ o → parent_stands models k o ≡ false → P NoParent
-      go none e h = absurd (false≢true (sym h))
-      go (some p) e h = no-parent {p = p} e (λ found. subst T (coupled-found p ∙ h) (passes (coupled-id-decides (earlier_in models k) p) found))
+      go None e h = absurd (false≢true (sym h))
+      go (Some p) e h = no-parent {p = p} e (λ found. subst T (coupled-found p ∙ h) (passes (coupled-id-decides (earlier_in models k) p) found))
 
   depth-breaks : depth_kept models k ≡ false → P TooDeep
   unfolding depth_in
@@ -155,7 +154,7 @@ module _ (models : List ℕ) (k : ℕ) (begins : k ≤ length models / model_wid
         & (λ h. no-batch-time (batcher-in row e) (λ t. subst T h t)) & nil)
         (λ own. join-told (batcher-fits row e ports own))
 
-    differ-told : (m : Metric) → cell row 1 ≡ 3 → metric_in row ≡ some m → P (first_broken (differ_checks row) (join_reason models k))
+    differ-told : (m : Metric) → cell row 1 ≡ 3 → metric_in row ≡ Some m → P (first_broken (differ_checks row) (join_reason models k))
     differ-told m e h =
         let kind = stopwatch-in row m e h in
         named P (differ_checks row) (join_reason models k)

@@ -1,9 +1,8 @@
 -- No row of a table that passes intake breaks a rule that a reason names: what `Breaks` says are rules. Assumes nothing.
 use Prim.Native.Nat.{ℕ, zero, suc, ◌+◌, ◌≤◌, ◌<◌, ◌^◌}
-use Rattle.std.specs.Prelude.{◌≡◌, Bool, true, false, ◌&&◌, if◌then◌else◌}
+use Rattle.std.specs.Prelude.{◌≡◌, Bool, true, false, ◌&&◌, if◌then◌else◌, Option, None, Some}
 use Rattle.std.proofs.Common.{sym, ap, ◌∙◌, subst, ne_eqb, leb→le, eqb→eq}
 use mathlib.Core.List.{List, [], ◌∷◌, map}
-use Rattle.std.proofs.Math.Option.{Option, none, some}
 use Rattle.std.proofs.Math.Decide.{dec_le}
 use native.Mathlib.Omega.{arith}
 use Rattle.std.proofs.Math.ListN.{length, length-map}
@@ -35,7 +34,7 @@ port-at row c (suc n) t j a b =
       | no l ↦ let e : j ≡ c = omega arith in rw e (ltb→lt (cell row c) (2 ^ 16) z.0)
     ]
 
-no_kind : (row : List ℕ) → (1 ≤ cell row 1 → cell row 1 ≤ 4 → ⊥) → kind_in row ≡ none
+no_kind : (row : List ℕ) → (1 ≤ cell row 1 → cell row 1 ≤ 4 → ⊥) → kind_in row ≡ None
 no_kind row n =
     rw (ne_eqb (cell row 1) 1 (λ e. n (omega arith) (omega arith)), ne_eqb (cell row 1) 2 (λ e. n (omega arith) (omega arith)), ne_eqb (cell row 1) 3 (λ e. n (omega arith) (omega arith)), ne_eqb (cell row 1) 4 (λ e. n (omega arith) (omega arith)))
 
@@ -48,14 +47,14 @@ any-earlier P models (suc k) j l h = elim (dec_le (suc j) k) [
 
 -- ---- a model row that keeps its rules
 module _ (models : List ℕ) (k : ℕ) (earlier : List Row) (before : earlier ≡ earlier_in models k) (fits : T (row_fits (row_of model_width models k)))
-    (read : model_row (row_of model_width models k) ≡ some (row_in models k)) (keeps : RowKeeps earlier (row_in models k)) where
+    (read : model_row (row_of model_width models k) ≡ Some (row_in models k)) (keeps : RowKeeps earlier (row_in models k)) where
   abbrev row : List ℕ
   row = row_of model_width models k
 
-  own : (kind : Kind) → kind_in row ≡ some kind → KindKeeps kind
+  own : (kind : Kind) → kind_in row ≡ Some kind → KindKeeps kind
   own kind e = subst (λ (o : Option Kind). KindKeeps (kind_or o)) e keeps.kind-keeps
 
-  some-kind : kind_in row ≡ none → ⊥
+  some-kind : kind_in row ≡ None → ⊥
   some-kind e = no-some (sym (ap (Layout.row_in row) e) ∙ read)
 
   model-keeps : {r : Reason} → ModelBreaks (row_of model_width models) earlier k r → ⊥
@@ -90,18 +89,18 @@ connector-keeps row t b = go (parts (eqb (length row) connector_width ∷ cells_
 
 module _ (models row : List ℕ) (rows : List Row) (same : (test : Row → Bool) → some_of test rows ≡ some_of test (all_in models)) where
   -- the target of an external input
-  target_keeps : (owner sp target tp unused : ℕ) → coupling_in row ≡ some (Table.external_input owner sp target tp, unused)
+  target_keeps : (owner sp target tp unused : ℕ) → coupling_in row ≡ Some (Table.external_input owner sp target tp, unused)
       → T (if eqb (cell row 1) 1 then is_component_of (all_in models) (cell row 0) (cell row 4) else true) → ComponentOf rows owner target
   target_keeps owner sp target tp unused = go (eqb (cell row 1) 1) (eqb (cell row 1) 2) (eqb (cell row 1) 3)
     where
       first : Option (Table.Coupling × ℕ) → Table.Coupling
-      first none = inner_in row
-      first (some (coupling, unused)) = coupling
+      first None = inner_in row
+      first (Some (coupling, unused)) = coupling
 
       is : Bool → Bool → Bool → Option (Table.Coupling × ℕ)
-      is a b d = if a then some (input_in row, cell row 2) else if b then some (output_in row, cell row 4) else if d then some (inner_in row, 0) else none
+      is a b d = if a then Some (input_in row, cell row 2) else if b then Some (output_in row, cell row 4) else if d then Some (inner_in row, 0) else None
 
-      go : (a b d : Bool) → is a b d ≡ some (Table.external_input owner sp target tp, unused)
+      go : (a b d : Bool) → is a b d ≡ Some (Table.external_input owner sp target tp, unused)
           → T (if a then is_component_of (all_in models) (cell row 0) (cell row 4) else true) → ComponentOf rows owner target
       go true b d e t =
           let f : input_in row ≡ Table.external_input owner sp target tp = ap first e in

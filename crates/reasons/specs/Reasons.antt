@@ -1,6 +1,5 @@
 -- Why a table is refused. The rules that a row can break are looked at in the order in which a person does: whether it is whole, its kind, its fields, ids and ports, what is the kind's own, whether the id is taken, the parent, the depth. Definitions only. Assumes nothing.
-use Rattle.std.specs.Prelude.{ℕ, ◌/◌, Bool, true, not, List, [], ◌∷◌, length, leb, ltb, eqb, if◌then◌else◌, None, Some}
-use Rattle.std.proofs.Math.Option.{Option, none, some}
+use Rattle.std.specs.Prelude.{ℕ, ◌/◌, Bool, true, not, List, [], ◌∷◌, length, leb, ltb, eqb, if◌then◌else◌, None, Some, Option}
 use Rattle.std.specs.Float.{binary64}
 use Rattle.std.specs.Float.Ieee.{of_bits}
 use Rattle.times.specs.Time.{is_time}
@@ -38,8 +37,8 @@ abbrev pub coupled_before : List ℕ → ℕ → ℕ → Bool
 coupled_before models n id = is_found (next_row (id_and id 1 4) model_width 0 n models)
 
 abbrev pub parent_stands : List ℕ → ℕ → Option ℕ → Bool
-parent_stands models k none = true
-parent_stands models k (some id) = coupled_before models k id
+parent_stands models k None = true
+parent_stands models k (Some id) = coupled_before models k id
 
 abbrev pub depth_kept : List ℕ → ℕ → Bool
 depth_kept models k = if eqb (cell (row_of model_width models k) 1) 4 then leb (depth_in models k) deepest else true

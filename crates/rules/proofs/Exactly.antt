@@ -1,10 +1,9 @@
 -- The refusal table's "Given exactly when", for every input: `Refuses o lines` says that o gives each refusal exactly when its line says so, and no refusal without a line. Assumes nothing.
 use Prim.Native.Nat.{ℕ, zero, suc, ◌+◌, ◌≤◌, ◌<◌}
-use Rattle.std.specs.Prelude.{◌≡◌, ◌↔◌, ◌⊎◌, Bool, true, false, not, ◌&&◌, cond, length, get_or, T, leb, ltb, Float, if◌then◌else◌}
+use Rattle.std.specs.Prelude.{◌≡◌, ◌↔◌, ◌⊎◌, Bool, true, false, not, ◌&&◌, cond, length, get_or, T, leb, ltb, Float, if◌then◌else◌, None}
 use Rattle.std.proofs.Math.Path.{refl, sym}
 use Rattle.std.proofs.Common.{ap, ◌∙◌, subst, inl, inr}
 use mathlib.Core.List.{List, [], ◌∷◌, ◌++◌, map}
-use Rattle.std.proofs.Math.Option.{none}
 use native.Mathlib.Omega.{arith}
 use Rattle.std.proofs.Math.ListN.{length-append}
 use Rattle.std.proofs.lemmas.List.{length-map}
@@ -269,7 +268,7 @@ marked-exactly mark name jobs =
     ((λ h. rw (is_false known h.0, (keep-exactly new jobs NoQueueRoom).1 h.1)) by tt)
   where
     new : Marks
-    new = mark (record { name = name; start = none; stop = none })
+    new = mark (record { name = name; start = None; stop = None })
 
     known : Decides (some_of (is_named name) jobs) (Any (λ (j : Marks). j.name ≡ name) jobs)
     known = some-decides (named-decides name) jobs
@@ -623,7 +622,7 @@ module _ (sim : Simulation) where
 
   -- 4: "status of an id not among the models without parent"
   abbrev pub status_lines : ℕ → Lines
-  status_lines id = (ModelNotFound, (i : ℕ) → i < length sim.table.rows → (row_at sim.table i).parent ≡ none → id_at sim.table i ≡ id → ⊥) ∷ []
+  status_lines id = (ModelNotFound, (i : ℕ) → i < length sim.table.rows → (row_at sim.table i).parent ≡ None → id_at sim.table i ≡ id → ⊥) ∷ []
 
   pub status-exactly : (id : ℕ) → Refuses (get_status id sim) (guard_lines (is_valid sim) (status_lines id))
   unfolding get_status
@@ -639,7 +638,7 @@ module _ (sim : Simulation) where
       ends [] e = stops {r = ModelNotFound} (λ i l p q. passes (member-decides i []) (subst (λ (is : List ℕ). i ∈ is) e ((rooted i).1 ((parentless-element sim.table i).1 (l, p), q))))
       ends (i ∷ is) e = goes tt
 
-      no-roots : (is : List ℕ) → roots ≡ is → ((i : ℕ) → i < length sim.table.rows → (row_at sim.table i).parent ≡ none → id_at sim.table i ≡ id → ⊥) → is ≡ []
+      no-roots : (is : List ℕ) → roots ≡ is → ((i : ℕ) → i < length sim.table.rows → (row_at sim.table i).parent ≡ None → id_at sim.table i ≡ id → ⊥) → is ≡ []
       no-roots [] e n = refl
       no-roots (i ∷ is) e n =
           let z = (rooted i).0 (subst (λ (js : List ℕ). i ∈ js) (sym e) (here refl)) in

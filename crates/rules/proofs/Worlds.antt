@@ -1,9 +1,8 @@
 -- What every event and every step keeps: the rules of refusal 20, and any K that the single events keep (`Closed`), with the refusals among a set B. Assumes nothing.
 use Prim.Native.Nat.{ℕ, zero, suc, ◌≤◌}
-use Rattle.std.specs.Prelude.{◌≡◌, ◌⊎◌, Bool, true, false, not, ◌&&◌, List, [], ◌∷◌, ◌++◌, map, length, set, T, eqb, Float, if◌then◌else◌}
+use Rattle.std.specs.Prelude.{◌≡◌, ◌⊎◌, Bool, true, false, not, ◌&&◌, List, [], ◌∷◌, ◌++◌, map, length, set, T, eqb, Float, if◌then◌else◌, Option, None, Some}
 use Rattle.std.proofs.Math.Path.{refl}
 use Rattle.std.proofs.Common.{sym, ◌∙◌, subst, inl, inr, arith, length-set, le→leb}
-use Rattle.std.proofs.Math.Option.{Option, none, some}
 use Rattle.std.proofs.lemmas.List.{length-map}
 use Rattle.std.proofs.Math.ListN.{get_or-map}
 use Rattle.std.specs.Float.{binary64}
@@ -94,14 +93,14 @@ stopwatch-output : (w : Stopwatch) → All T (kind_rules (stopwatch w)) → T (i
 stopwatch-output w (a & b & c & d & rest) = d
 
 -- ---- along the couplings
-if_some : {A : Type 0} (b : Bool) (x y : A) → ◌≡◌ {A = Option A} (if b then some x else none) (some y) → x ≡ y
+if_some : {A : Type 0} (b : Bool) (x y : A) → ◌≡◌ {A = Option A} (if b then Some x else None) (Some y) → x ≡ y
 if_some true x y e = let z : x ≡ y = cc in z
 if_some false x y e = absurd (no-some e)
 
 abbrev TargetFits : Target → Type 0
 TargetFits to = T (is_id to.target) × T (is_port to.port)
 
-internal-fits : (rows : List Row) (owner source port : ℕ) (c : Coupling) (to : Target) → T (hold (coupling_rules rows c)) → internal_of owner source port c ≡ some to → TargetFits to
+internal-fits : (rows : List Row) (owner source port : ℕ) (c : Coupling) (to : Target) → T (hold (coupling_rules rows c)) → internal_of owner source port c ≡ Some to → TargetFits to
 internal-fits rows owner source port (external_input o sp target tp) to h e = absurd (no-some e)
 internal-fits rows owner source port (external_output o s sp tp) to h e = absurd (no-some e)
 internal-fits rows owner source port (internal_coupling o s sp target tp) to h e =
@@ -110,7 +109,7 @@ internal-fits rows owner source port (internal_coupling o s sp target tp) to h e
     go : All T (coupling_rules rows (internal_coupling o s sp target tp)) → T (is_id target) × T (is_port tp)
     go (a & b & c & d & x & y) = (d, x)
 
-output-fits : (rows : List Row) (owner source port : ℕ) (c : Coupling) (to : ℕ) → T (hold (coupling_rules rows c)) → output_of owner source port c ≡ some to → T (is_port to)
+output-fits : (rows : List Row) (owner source port : ℕ) (c : Coupling) (to : ℕ) → T (hold (coupling_rules rows c)) → output_of owner source port c ≡ Some to → T (is_port to)
 output-fits rows owner source port (external_input o sp target tp) to h e = absurd (no-some e)
 output-fits rows owner source port (external_output o s sp tp) to h e =
     subst (λ (n : ℕ). T (is_port n)) (if_some (eqb o owner && eqb s source && eqb sp port) tp to e) (go (parts (coupling_rules rows (external_output o s sp tp)) h))

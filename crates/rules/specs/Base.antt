@@ -1,6 +1,5 @@
 -- The words that the rules are written in: an outcome, a choice, a sweep over a list. Definitions only. Assumes nothing.
-use Rattle.std.specs.Prelude.{ℕ, zero, suc, Bool, true, false, List, [], ◌∷◌, length, leb, if◌then◌else◌}
-use Rattle.std.proofs.Math.Option.{Option, none, some}
+use Rattle.std.specs.Prelude.{ℕ, zero, suc, Bool, true, false, List, [], ◌∷◌, length, leb, if◌then◌else◌, Option, None, Some}
 use Rattle.rules.specs.declared.Refusal.{Refusal}
 
 infixl 5 ◌>>=◌
@@ -27,7 +26,7 @@ those test (x ∷ xs) = let rest = those test xs in if test x then x ∷ rest el
 -- what `choose` makes of each, in order, where it makes something
 abbrev pub chosen : {A B : Type 0} → (A → Option B) → List A → List B
 chosen choose [] = []
-chosen choose (x ∷ xs) = let rest = chosen choose xs in elim (choose x) [ none ↦ rest | some y ↦ y ∷ rest ]
+chosen choose (x ∷ xs) = let rest = chosen choose xs in elim (choose x) [ None ↦ rest | Some y ↦ y ∷ rest ]
 
 -- every element passes the test
 abbrev pub every : {A : Type 0} → (A → Bool) → List A → Bool

@@ -1,6 +1,5 @@
 -- The calls on a simulation: post, put, inject_input, step, step_n, step_until, reset and its two halves, messages, clock, status. Definitions only. Assumes nothing.
-use Rattle.std.specs.Prelude.{ℕ, zero, suc, ◌-◌, Bool, not, List, [], ◌∷◌, ◌++◌, length, leb, eqb, Float, if◌then◌else◌}
-use Rattle.std.proofs.Math.Option.{Option}
+use Rattle.std.specs.Prelude.{ℕ, zero, suc, ◌-◌, Bool, not, List, [], ◌∷◌, ◌++◌, length, leb, eqb, Float, if◌then◌else◌, Option}
 use Rattle.std.specs.Float.Ieee.{lt, fits}
 use Rattle.std.specs.Float.{binary64}
 use Rattle.times.specs.Time.{instant, is_time}

@@ -1,6 +1,5 @@
 -- "The bench's own cases" of 01: one table of cases under one statement, computed over the rules. Then the bench's run. Assumes nothing.
-use Rattle.std.specs.Prelude.{ℕ, ◌≡◌, refl, List, [], ◌∷◌, ◌++◌, Float}
-use Rattle.std.proofs.Math.Option.{some}
+use Rattle.std.specs.Prelude.{ℕ, ◌≡◌, refl, List, [], ◌∷◌, ◌++◌, Float, Some}
 use Rattle.std.specs.Float.Ieee.{add, sub, lt, le, eq, fits, of_bits, to_bits}
 use Rattle.times.specs.Time.{instant, never, is_time, is_timer, least_of}
 use Rattle.rules.specs.declared.Refusal.TheVariants.{InvalidModelState, Idle}
@@ -80,7 +79,7 @@ abbrev pub equals : List Message
 equals = job 1 1 21 ∷ job 1 1 22 ∷ job 1 2 22 ∷ job 1 2 21 ∷ job 1 3 0 ∷ []
 
 abbrev pub at_zero : ℕ → Marks
-at_zero name = record { name = name; start = some instant; stop = some instant }
+at_zero name = record { name = name; start = Some instant; stop = Some instant }
 
 abbrev pub four_five_six : List Float
 four_five_six = four ∷ five ∷ six ∷ []

@@ -1,10 +1,9 @@
 -- Each definition that reads like a test decides what its sentence of 01 says: `Decides (test ..) P` is the equivalence of `T (test ..)` with the proposition P. Assumes nothing.
-use Rattle.std.specs.Prelude.{ℕ, zero, suc, ◌+◌, ◌≤◌, ◌<◌, ◌^◌, ◌/◌, ◌%◌, ◌≡◌, ◌↔◌, ◌≢◌, ◌⊎◌, Bool, not, ◌&&◌, length, get_or, take, T, leb, ltb, eqb, Float, if◌then◌else◌}
+use Rattle.std.specs.Prelude.{ℕ, zero, suc, ◌+◌, ◌≤◌, ◌<◌, ◌^◌, ◌/◌, ◌%◌, ◌≡◌, ◌↔◌, ◌≢◌, ◌⊎◌, Bool, not, ◌&&◌, length, get_or, take, T, leb, ltb, eqb, Float, if◌then◌else◌, Option, None, Some}
 use Rattle.std.proofs.Common.{zero-le, suc-le-suc, sym, ap, ◌∙◌, inl, inr, le_of_suc-le-suc, not-suc-le-zero, eq-or-lt_of_le, arith, leb→le, le→leb, ltb→lt, lt→ltb, eqb→eq, T_not}
 use Rattle.std.proofs.Math.Path.{refl, subst}
 use Rattle.std.proofs.Math.Bool.{true, false}
 use mathlib.Core.List.{List, [], ◌∷◌, map, reverse_aux}
-use Rattle.std.proofs.Math.Option.{Option, none, some}
 use Rattle.std.proofs.Math.Dec.{not_T}
 use Rattle.std.specs.Float.Ieee.Fits.{and_i, and_l, and_r, eq→eqb}
 use Rattle.std.specs.Float.{binary64}
@@ -106,10 +105,10 @@ picks : {A : Type 0} (test : A → Bool) (a : A) → T (test a) → ((x : A) →
 picks test a t is x = exactly (is x) (λ e. subst (λ y. T (test y)) (sym e) t)
 
 -- a test of what an option holds, if it holds something
-if_none : {A : Type 0} (P : A → Type 0) → Decides true ((y : A) → none ≡ some y → P y)
+if_none : {A : Type 0} (P : A → Type 0) → Decides true ((y : A) → None ≡ Some y → P y)
 if_none P = exactly (λ _ y e. absurd (no-some e)) (λ _. tt)
 
-if-held : {A : Type 0} (P : A → Type 0) {b : Bool} (x : A) → Decides b (P x) → Decides b ((y : A) → some x ≡ some y → P y)
+if-held : {A : Type 0} (P : A → Type 0) {b : Bool} (x : A) → Decides b (P x) → Decides b ((y : A) → Some x ≡ Some y → P y)
 if-held P x d = reads d (λ h y e. let z : x ≡ y = cc in subst P z h) (λ f. f x refl)
 
 pub hold-decides : (bs : List Bool) → Decides (hold bs) (All T bs)
@@ -161,20 +160,20 @@ coupled-decides = picks is_coupled coupled tt is
     is coupled t = refl
 
 -- "A component's row names its parent"
-pub parent-decides : (p : ℕ) (o : Option ℕ) → Decides (is_parent p o) (o ≡ some p)
-parent-decides p = picks (is_parent p) (some p) (passes (same p p) refl) is
+pub parent-decides : (p : ℕ) (o : Option ℕ) → Decides (is_parent p o) (o ≡ Some p)
+parent-decides p = picks (is_parent p) (Some p) (passes (same p p) refl) is
   where
-    is : (o : Option ℕ) → T (is_parent p o) → o ≡ some p
-    is none t = absurd t
-    is (some q) t = ap some (tells (same q p) t)
+    is : (o : Option ℕ) → T (is_parent p o) → o ≡ Some p
+    is None t = absurd t
+    is (Some q) t = ap Some (tells (same q p) t)
 
 -- "the models without parent"
-pub parentless-decides : (o : Option ℕ) → Decides (is_parentless o) (o ≡ none)
-parentless-decides = picks is_parentless none tt is
+pub parentless-decides : (o : Option ℕ) → Decides (is_parentless o) (o ≡ None)
+parentless-decides = picks is_parentless None tt is
   where
-    is : (o : Option ℕ) → T (is_parentless o) → o ≡ none
-    is none t = refl
-    is (some q) t = absurd t
+    is : (o : Option ℕ) → T (is_parentless o) → o ≡ None
+    is None t = refl
+    is (Some q) t = absurd t
 
 -- ---- a model row
 -- "Ids are unique over the whole table.": no earlier row has the id
@@ -189,9 +188,9 @@ pub coupled-id-decides : (rows : List Row) (owner : ℕ) → Decides (is_coupled
 coupled-id-decides rows owner = some-decides (λ (r : Row). both (same r.id owner) (coupled-decides r.kind)) rows
 
 -- "A component's row names its parent, which is an earlier row and a Coupled."
-pub parent-fits-decides : (earlier : List Row) (o : Option ℕ) → Decides (parent_fits earlier o) ((p : ℕ) → o ≡ some p → CoupledId earlier p)
-parent-fits-decides earlier none = if_none (CoupledId earlier)
-parent-fits-decides earlier (some p) = if-held (CoupledId earlier) p (coupled-id-decides earlier p)
+pub parent-fits-decides : (earlier : List Row) (o : Option ℕ) → Decides (parent_fits earlier o) ((p : ℕ) → o ≡ Some p → CoupledId earlier p)
+parent-fits-decides earlier None = if_none (CoupledId earlier)
+parent-fits-decides earlier (Some p) = if-held (CoupledId earlier) p (coupled-id-decides earlier p)
 
 -- "A Coupled may hold another Coupled, to depth 4 (a row without parent has depth 1)."
 pub depth-decides : (earlier : List Row) (r : Row) → Decides (depth_fits earlier r) (r.kind ≡ coupled → depth_of earlier r.parent ≤ 4)
@@ -221,7 +220,7 @@ kind-decides coupled = itself true
 pub record RowKeeps (earlier : List Row) (r : Row) : Type 0 where
   pub id-width : r.id < 2 ^ 16
   pub unique : Any (λ (e : Row). e.id ≡ r.id) earlier → ⊥
-  pub parent_is : (p : ℕ) → r.parent ≡ some p → CoupledId earlier p
+  pub parent_is : (p : ℕ) → r.parent ≡ Some p → CoupledId earlier p
   pub depth : r.kind ≡ coupled → depth_of earlier r.parent ≤ 4
   pub kind-keeps : KindKeeps r.kind
 
@@ -242,7 +241,7 @@ connector-decides c = below c.source (2 ^ 16) and below c.source_port (2 ^ 16) a
 
 -- some row has this id, and names this parent: not "an external input coupling's target is not its component"
 abbrev pub ComponentOf : List Row → ℕ → ℕ → Type 0
-ComponentOf rows owner target = Any (λ (r : Row). (r.id ≡ target) × (r.parent ≡ some owner)) rows
+ComponentOf rows owner target = Any (λ (r : Row). (r.id ≡ target) × (r.parent ≡ Some owner)) rows
 
 pub component-decides : (rows : List Row) (owner target : ℕ) → Decides (is_component_of rows owner target) (ComponentOf rows owner target)
 component-decides rows owner target = some-decides (λ (r : Row). both (same r.id target) (parent-decides owner r.parent)) rows
@@ -269,8 +268,8 @@ coupling-decides rows (internal_coupling owner source sp target tp) =
 -- ---- intake
 -- a row that is whole, and has P
 abbrev pub Whole : {A : Type 0} → (A → Type 0) → Option A → Type 0
-Whole P none = ⊥
-Whole P (some x) = P x
+Whole P None = ⊥
+Whole P (Some x) = P x
 
 -- all of the n places are fine
 abbrev pub Fine : (ℕ → Type 0) → ℕ → Type 0
@@ -282,28 +281,28 @@ First F n k = (k < n) × Fine F k × (F k → ⊥)
 
 -- a search over n places that finds none exactly when all are fine, and k exactly when k is the first that is not
 abbrev pub Finds : (ℕ → Type 0) → ℕ → Option ℕ → Type 0
-Finds F n o = ((o ≡ none) ↔ Fine F n) × ((k : ℕ) → (o ≡ some k) ↔ First F n k)
+Finds F n o = ((o ≡ None) ↔ Fine F n) × ((k : ℕ) → (o ≡ Some k) ↔ First F n k)
 
 -- what a search that counts its n places from k finds
 data Found (F : ℕ → Type 0) (k n : ℕ) : Option ℕ → Type 0 where
-  nowhere : Fine F n → Found F k n none
-  at : {j : ℕ} (i : ℕ) → First F n i → j ≡ k + i → Found F k n (some j)
+  nowhere : Fine F n → Found F k n None
+  at : {j : ℕ} (i : ℕ) → First F n i → j ≡ k + i → Found F k n (Some j)
 
 module _ (F : ℕ → Type 0) where
   next-fine : {n : ℕ} → F 0 → Fine (λ i. F (suc i)) n → Fine F (suc n)
   next-fine h f zero l = h
   next-fine h f (suc i) l = f i (le_of_suc-le-suc l)
 
-  found-end : (k : ℕ) → Found F k 0 none
+  found-end : (k : ℕ) → Found F k 0 None
   found-end k = nowhere (λ i l. absurd (not-suc-le-zero l))
 
-  found_here : (k n : ℕ) → (F 0 → ⊥) → Found F k (suc n) (some k)
+  found_here : (k n : ℕ) → (F 0 → ⊥) → Found F k (suc n) (Some k)
   found_here k n h = at {j = k} 0 (suc-le-suc zero-le, λ i l. absurd (not-suc-le-zero l), h) (omega arith)
 
-  found-next : (k n : ℕ) {b : Bool} {o : Option ℕ} → Decides b (F 0) → Found (λ i. F (suc i)) (suc k) n o → Found F k (suc n) (if b then o else some k)
+  found-next : (k n : ℕ) {b : Bool} {o : Option ℕ} → Decides b (F 0) → Found (λ i. F (suc i)) (suc k) n o → Found F k (suc n) (if b then o else Some k)
   found-next k n {b} d p = go b d p
     where
-      go : (b : Bool) {o : Option ℕ} → Decides b (F 0) → Found (λ i. F (suc i)) (suc k) n o → Found F k (suc n) (if b then o else some k)
+      go : (b : Bool) {o : Option ℕ} → Decides b (F 0) → Found (λ i. F (suc i)) (suc k) n o → Found F k (suc n) (if b then o else Some k)
       go true d (nowhere f) = nowhere (next-fine (tells d tt) f)
       go true d (at {j = j} i h e) = at {j = j} (suc i) (suc-le-suc h.0, next-fine (tells d tt) h.1, h.2) (omega arith)
       go false d p = found_here k n (passes d)
@@ -320,30 +319,30 @@ module _ (F : ℕ → Type 0) where
     (λ q. absurd (no-some (sym q)), λ f. absurd (h.2 (f i h.0))),
     λ k. (
       λ q. let w : j ≡ k = cc in let z : i ≡ k = omega arith in subst (λ (z : ℕ). First F n z) z h,
-      λ g. ap some (let w = first-once h g in omega arith),
+      λ g. ap Some (let w = first-once h g in omega arith),
     ),
   )
 
 -- row i is whole, and keeps its rules against the rows before it, the nearest first
 abbrev pub RowFine : List Row → List (Option Row) → ℕ → Type 0
-RowFine earlier rows i = Whole (RowKeeps (reverse_aux (whole (take i rows)) earlier)) (get_or rows i none)
+RowFine earlier rows i = Whole (RowKeeps (reverse_aux (whole (take i rows)) earlier)) (get_or rows i None)
 
 rows-found : (k : ℕ) (earlier : List Row) (rows : List (Option Row)) → Found (RowFine earlier rows) k (length rows) (first_bad_row k earlier rows)
 rows-found k earlier [] = found-end (RowFine earlier []) k
-rows-found k earlier (none ∷ rows) = found_here (RowFine earlier (none ∷ rows)) k (length rows) (λ h. h)
-rows-found k earlier (some r ∷ rows) = found-next (RowFine earlier (some r ∷ rows)) k (length rows) (row-decides earlier r) (rows-found (suc k) (r ∷ earlier) rows)
+rows-found k earlier (None ∷ rows) = found_here (RowFine earlier (None ∷ rows)) k (length rows) (λ h. h)
+rows-found k earlier (Some r ∷ rows) = found-next (RowFine earlier (Some r ∷ rows)) k (length rows) (row-decides earlier r) (rows-found (suc k) (r ∷ earlier) rows)
 
 -- connector or coupling i is whole, and keeps its rules
 abbrev pub LineFine : {A : Type 0} → (A → Type 0) → List (Option A) → ℕ → Type 0
-LineFine P lines i = Whole P (get_or lines i none)
+LineFine P lines i = Whole P (get_or lines i None)
 
 lines-found : {A : Type 0} {P : A → Type 0} (rules : A → List Bool) → ((x : A) → Decides (hold (rules x)) (P x)) → (k : ℕ) (lines : List (Option A))
     → Found (LineFine P lines) k (length lines) (first_bad rules k lines)
 lines-found {P = P} rules d k [] = found-end (LineFine P []) k
-lines-found {P = P} rules d k (none ∷ lines) = found_here (LineFine P (none ∷ lines)) k (length lines) (λ h. h)
-lines-found {P = P} rules d k (some x ∷ lines) = found-next (LineFine P (some x ∷ lines)) k (length lines) (d x) (lines-found rules d (suc k) lines)
+lines-found {P = P} rules d k (None ∷ lines) = found_here (LineFine P (None ∷ lines)) k (length lines) (λ h. h)
+lines-found {P = P} rules d k (Some x ∷ lines) = found-next (LineFine P (Some x ∷ lines)) k (length lines) (d x) (lines-found rules d (suc k) lines)
 
-pub whole-some : {A : Type 0} (xs : List A) → whole (map some xs) ≡ xs
+pub whole-some : {A : Type 0} (xs : List A) → whole (map Some xs) ≡ xs
 whole-some [] = refl
 whole-some {A = A} (x ∷ xs) = ap (λ (ys : List A). x ∷ ys) (whole-some xs)
 
@@ -409,12 +408,12 @@ module _ (p : Posted) where
       judged : (b : Bool) (x y z : Option ℕ) → Decides b (SizesKeep p) → Finds (RowFine [] p.rows) (length p.rows) x
           → Finds (LineFine ConnectorKeeps p.connectors) (length p.connectors) y
           → Finds (LineFine (CouplingKeeps (whole p.rows)) p.couplings) (length p.couplings) z
-          → Judged (if b then elim x [ some k ↦ bad_row k | none ↦ elim y [ some k ↦ bad_connector k | none ↦ elim z [ some k ↦ bad_coupling k | none ↦ passed (whole_table p) ] ] ] else too_large)
+          → Judged (if b then elim x [ Some k ↦ bad_row k | None ↦ elim y [ Some k ↦ bad_connector k | None ↦ elim z [ Some k ↦ bad_coupling k | None ↦ passed (whole_table p) ] ] ] else too_large)
       judged false x y z s f g h = passes s
-      judged true (some k) y z s f g h = (tells s tt, (f.1 k).0 refl)
-      judged true none (some k) z s f g h = (tells s tt, f.0.0 refl, (g.1 k).0 refl)
-      judged true none none (some k) s f g h = (tells s tt, f.0.0 refl, g.0.0 refl, (h.1 k).0 refl)
-      judged true none none none s f g h = (tells s tt, f.0.0 refl, g.0.0 refl, h.0.0 refl, refl)
+      judged true (Some k) y z s f g h = (tells s tt, (f.1 k).0 refl)
+      judged true None (Some k) z s f g h = (tells s tt, f.0.0 refl, (g.1 k).0 refl)
+      judged true None None (Some k) s f g h = (tells s tt, f.0.0 refl, g.0.0 refl, (h.1 k).0 refl)
+      judged true None None None s f g h = (tells s tt, f.0.0 refl, g.0.0 refl, h.0.0 refl, refl)
 
       given : (v : Verdict) → Judged v → intake p ≡ v
       given too_large n = rw (is_false (sizes-decide p) n)
@@ -449,9 +448,9 @@ pub due-decides : (t : Table) (depth : ℕ) (states : List State) (i : ℕ) → 
 due-decides t depth states i h = record { is = law.timers-zero (timer t depth states i) h }
 
 -- "stopwatch marks are times"
-pub mark-decides : (o : Option Float) → Decides (mark_fits o) ((x : Float) → o ≡ some x → T (is_time x))
-mark-decides none = if_none (λ x. T (is_time x))
-mark-decides (some x) = if-held (λ x. T (is_time x)) x (itself (is_time x))
+pub mark-decides : (o : Option Float) → Decides (mark_fits o) ((x : Float) → o ≡ Some x → T (is_time x))
+mark-decides None = if_none (λ x. T (is_time x))
+mark-decides (Some x) = if-held (λ x. T (is_time x)) x (itself (is_time x))
 
 -- ---- places in a list
 abbrev pub ◌∈◌ : {A : Type 0} → A → List A → Type 0
@@ -539,7 +538,7 @@ batcher-decides s =
 
 -- "stopwatch marks are times"
 abbrev pub MarksKeep : Marks → Type 0
-MarksKeep j = (j.name < 2 ^ 32) also ((x : Float) → j.start ≡ some x → T (is_time x)) also ((x : Float) → j.stop ≡ some x → T (is_time x))
+MarksKeep j = (j.name < 2 ^ 32) also ((x : Float) → j.start ≡ Some x → T (is_time x)) also ((x : Float) → j.stop ≡ Some x → T (is_time x))
 
 pub record StopwatchKeeps (s : StopwatchState) : Type 0 where
   pub timer : T (is_time s.timer) ⊎ (s.timer ≡ never)
@@ -669,14 +668,14 @@ those-sifts {A = A} {P = P} {test = test} d (x ∷ xs) = go (test x) (d x) (thos
     go true d p = kept (refl, tells d tt) p
     go false d p = left (passes d) p
 
-pub chosen-sifts : {A B : Type 0} (choose : A → Option B) (xs : List A) → Sifted (λ x y. choose x ≡ some y) (λ x. choose x ≡ none) xs (chosen choose xs)
+pub chosen-sifts : {A B : Type 0} (choose : A → Option B) (xs : List A) → Sifted (λ x y. choose x ≡ Some y) (λ x. choose x ≡ None) xs (chosen choose xs)
 chosen-sifts choose [] = ended
 chosen-sifts {B = B} choose (x ∷ xs) = go (choose x) refl (chosen-sifts choose xs)
   where
-    go : (o : Option B) {ys : List B} → choose x ≡ o → Sifted (λ x y. choose x ≡ some y) (λ x. choose x ≡ none) xs ys
-        → Sifted (λ x y. choose x ≡ some y) (λ x. choose x ≡ none) (x ∷ xs) (elim o [ none ↦ ys | some y ↦ y ∷ ys ])
-    go none e p = left e p
-    go (some y) e p = kept e p
+    go : (o : Option B) {ys : List B} → choose x ≡ o → Sifted (λ x y. choose x ≡ Some y) (λ x. choose x ≡ None) xs ys
+        → Sifted (λ x y. choose x ≡ Some y) (λ x. choose x ≡ None) (x ∷ xs) (elim o [ None ↦ ys | Some y ↦ y ∷ ys ])
+    go None e p = left e p
+    go (Some y) e p = kept e p
 
 -- so y is in the list exactly when it was made of some element
 sifted-element : {A B : Type 0} {K : A → B → Type 0} {N : A → Type 0} {xs : List A} {ys : List B} → Sifted K N xs ys → (y : B)
@@ -713,7 +712,7 @@ those-element {A = A} {P = P} d xs x =
     )
 
 -- in `chosen` exactly when made of one in the list
-pub chosen-element : {A B : Type 0} (choose : A → Option B) (xs : List A) (y : B) → (y ∈ chosen choose xs) ↔ Any (λ x. choose x ≡ some y) xs
+pub chosen-element : {A B : Type 0} (choose : A → Option B) (xs : List A) (y : B) → (y ∈ chosen choose xs) ↔ Any (λ x. choose x ≡ Some y) xs
 chosen-element choose xs y = sifted-element (chosen-sifts choose xs) y (λ a b h k. cc) (λ a n k. no-some (sym n ∙ k))
 
 -- "every connector, in order, that matches source id and port"
@@ -751,26 +750,26 @@ rows-element t d i =
     (λ q. ((place-element (length t.rows) i).0 (z.0 q).0, (z.0 q).1), λ h. z.1 ((place-element (length t.rows) i).1 h.0, h.1))
 
 -- the parentless models
-pub parentless-element : (t : Table) (i : ℕ) → (i ∈ parentless t) ↔ ((i < length t.rows) × ((row_at t i).parent ≡ none))
+pub parentless-element : (t : Table) (i : ℕ) → (i ∈ parentless t) ↔ ((i < length t.rows) × ((row_at t i).parent ≡ None))
 parentless-element t i = rows-element t parentless-decides i
 
 -- the components of a Coupled: the rows that name it as their parent
-pub components-element : (t : Table) (owner i : ℕ) → (i ∈ components t owner) ↔ ((i < length t.rows) × ((row_at t i).parent ≡ some owner))
+pub components-element : (t : Table) (owner i : ℕ) → (i ∈ components t owner) ↔ ((i < length t.rows) × ((row_at t i).parent ≡ Some owner))
 components-element t owner i = rows-element t (parent-decides owner) i
 
 -- ---- couplings by what they match
-if_some : {A : Type 0} {b : Bool} {P : Type 0} {x y : A} → Decides b P → ((if b then some y else none) ≡ some x) ↔ (P × (y ≡ x))
+if_some : {A : Type 0} {b : Bool} {P : Type 0} {x y : A} → Decides b P → ((if b then Some y else None) ≡ Some x) ↔ (P × (y ≡ x))
 if_some {A} {b} {P} {x} {y} d = go b d
   where
-    go : (b : Bool) → Decides b P → ((if b then some y else none) ≡ some x) ↔ (P × (y ≡ x))
-    go true d = (λ e. (tells d tt, cc), λ h. ap some h.1)
+    go : (b : Bool) → Decides b P → ((if b then Some y else None) ≡ Some x) ↔ (P × (y ≡ x))
+    go true d = (λ e. (tells d tt, cc), λ h. ap Some h.1)
     go false d = (λ e. absurd (no-some e), λ h. absurd (passes d h.0))
 
 -- where y is made of c and of nothing else, y is in the list exactly when c is in the table
-made_of : {A B : Type 0} (choose : A → Option B) (xs : List A) (c : A) (y : B) → choose c ≡ some y → ((x : A) → choose x ≡ some y → x ≡ c) → (y ∈ chosen choose xs) ↔ (c ∈ xs)
+made_of : {A B : Type 0} (choose : A → Option B) (xs : List A) (c : A) (y : B) → choose c ≡ Some y → ((x : A) → choose x ≡ Some y → x ≡ c) → (y ∈ chosen choose xs) ↔ (c ∈ xs)
 made_of {A} choose xs c y e only =
     let z = chosen-element choose xs y in
-    (λ q. any-map only (z.0 q), λ q. z.1 (any-map (λ x f. subst (λ (a : A). choose a ≡ some y) (sym f) e) q))
+    (λ q. any-map only (z.0 q), λ q. z.1 (any-map (λ x f. subst (λ (a : A). choose a ≡ Some y) (sym f) e) q))
 
 -- "every matching external input coupling"
 pub inputs-element : (t : Table) (owner port : ℕ) (to : Target) → (to ∈ inputs t owner port) ↔ (external_input owner port to.target to.port ∈ t.couplings)
@@ -780,7 +779,7 @@ inputs-element t owner port to =
     match : (o sp : ℕ) → Decides (eqb o owner && eqb sp port) ((o ≡ owner) × (sp ≡ port))
     match o sp = both (same o owner) (same sp port)
 
-    is : (c : Coupling) → input_of owner port c ≡ some to → c ≡ external_input owner port to.target to.port
+    is : (c : Coupling) → input_of owner port c ≡ Some to → c ≡ external_input owner port to.target to.port
     is (external_input o sp target tp) e = let h = (if_some (match o sp)).0 e in λ i. external_input (h.0.0 i) (h.0.1 i) (h.1 i).target (h.1 i).port
     is (external_output o s sp tp) e = absurd (no-some e)
     is (internal_coupling o s sp target tp) e = absurd (no-some e)
@@ -794,7 +793,7 @@ module _ (owner source port : ℕ) where
   outputs-element t to =
       made_of (output_of owner source port) t.couplings (external_output owner source port to) to ((if_some (match owner source port)).1 (((refl, refl), refl), refl)) is
     where
-      is : (c : Coupling) → output_of owner source port c ≡ some to → c ≡ external_output owner source port to
+      is : (c : Coupling) → output_of owner source port c ≡ Some to → c ≡ external_output owner source port to
       is (external_input o sp target tp) e = absurd (no-some e)
       is (external_output o s sp tp) e = let h = (if_some (match o s sp)).0 e in λ i. external_output (h.0.0.0 i) (h.0.0.1 i) (h.0.1 i) (h.1 i)
       is (internal_coupling o s sp target tp) e = absurd (no-some e)
@@ -804,7 +803,7 @@ module _ (owner source port : ℕ) where
   internals-element t to =
       made_of (internal_of owner source port) t.couplings (internal_coupling owner source port to.target to.port) to ((if_some (match owner source port)).1 (((refl, refl), refl), refl)) is
     where
-      is : (c : Coupling) → internal_of owner source port c ≡ some to → c ≡ internal_coupling owner source port to.target to.port
+      is : (c : Coupling) → internal_of owner source port c ≡ Some to → c ≡ internal_coupling owner source port to.target to.port
       is (external_input o sp target tp) e = absurd (no-some e)
       is (external_output o s sp tp) e = absurd (no-some e)
       is (internal_coupling o s sp target tp) e =

@@ -1,7 +1,6 @@
 -- What intake tells of a table that passes it: rows, ids, parents, connectors, couplings, sizes; that what it passes, passes again; that five levels do for every event; and the induction from the parentless rows down. Assumes nothing.
-use Rattle.std.specs.Prelude.{ℕ, zero, suc, ◌+◌, ◌≤◌, ◌<◌, ◌≡◌, refl, ◌⊎◌, Bool, true, false, not, ◌&&◌, List, [], ◌∷◌, map, length, get_or, T, eqb, if◌then◌else◌}
+use Rattle.std.specs.Prelude.{ℕ, zero, suc, ◌+◌, ◌≤◌, ◌<◌, ◌≡◌, refl, ◌⊎◌, Bool, true, false, not, ◌&&◌, List, [], ◌∷◌, map, length, get_or, T, eqb, if◌then◌else◌, Option, None, Some}
 use Rattle.std.proofs.Common.{sym, ap, ◌∙◌, subst, inl, inr, arith, leb→le, eqb→eq, T_not}
-use Rattle.std.proofs.Math.Option.{Option, none, some}
 use Rattle.std.proofs.lemmas.List.{length-map}
 use Rattle.std.proofs.Math.Dec.{eqb_refl}
 use Rattle.std.specs.Float.Ieee.Fits.{and_l}
@@ -19,9 +18,9 @@ use Rattle.rules.specs.Decides.{tells, coupled-decides, parent-decides, parentle
 -- the sizes fit, and no row is the first bad one
 record Clean (p : Posted) : Type 0 where
   sizes : All T (size_rules p)
-  rows : first_bad_row 0 [] p.rows ≡ none
-  connectors : first_bad connector_rules 0 p.connectors ≡ none
-  couplings : first_bad (coupling_rules (whole p.rows)) 0 p.couplings ≡ none
+  rows : first_bad_row 0 [] p.rows ≡ None
+  connectors : first_bad connector_rules 0 p.connectors ≡ None
+  couplings : first_bad (coupling_rules (whole p.rows)) 0 p.couplings ≡ None
 
 clean : (p : Posted) (t : Table) → intake p ≡ passed t → Clean p × (whole_table p ≡ t)
 unfolding intake
@@ -33,33 +32,33 @@ clean p t e =
         → (z : Option ℕ) → first_bad (coupling_rules (whole p.rows)) 0 p.couplings ≡ z
         → (if b
         then elim x [
-          | some row ↦ bad_row row
-          | none ↦ elim y [ some row ↦ bad_connector row | none ↦ elim z [ some row ↦ bad_coupling row | none ↦ passed (whole_table p) ] ]
+          | Some row ↦ bad_row row
+          | None ↦ elim y [ Some row ↦ bad_connector row | None ↦ elim z [ Some row ↦ bad_coupling row | None ↦ passed (whole_table p) ] ]
         ]
         else too_large) ≡ passed t
         → Clean p × (whole_table p ≡ t)
-    go true s none f none g none h e = (record { sizes = s tt; rows = f; connectors = g; couplings = h }, cc)
-    go true s (some x) f y g z h e = absurd (let n : ◌≡◌ {A = ℕ} 0 1 = cc in omega arith)
-    go true s none f (some y) g z h e = absurd (let n : ◌≡◌ {A = ℕ} 0 1 = cc in omega arith)
-    go true s none f none g (some z) h e = absurd (let n : ◌≡◌ {A = ℕ} 0 1 = cc in omega arith)
+    go true s None f None g None h e = (record { sizes = s tt; rows = f; connectors = g; couplings = h }, cc)
+    go true s (Some x) f y g z h e = absurd (let n : ◌≡◌ {A = ℕ} 0 1 = cc in omega arith)
+    go true s None f (Some y) g z h e = absurd (let n : ◌≡◌ {A = ℕ} 0 1 = cc in omega arith)
+    go true s None f None g (Some z) h e = absurd (let n : ◌≡◌ {A = ℕ} 0 1 = cc in omega arith)
     go false s x f y g z h e = absurd (let n : ◌≡◌ {A = ℕ} 0 1 = cc in omega arith)
 
-if_none : (b : Bool) (rest : Option ℕ) (k : ℕ) → (if b then rest else some k) ≡ none → T b × (rest ≡ none)
+if_none : (b : Bool) (rest : Option ℕ) (k : ℕ) → (if b then rest else Some k) ≡ None → T b × (rest ≡ None)
 if_none true rest k e = (tt, e)
 if_none false rest k e = absurd (no-some (sym e))
 
 -- ---- what intake passes was whole, and passes again
-rows_whole : (k : ℕ) (earlier : List Row) (rows : List (Option Row)) → first_bad_row k earlier rows ≡ none → map some (whole rows) ≡ rows
+rows_whole : (k : ℕ) (earlier : List Row) (rows : List (Option Row)) → first_bad_row k earlier rows ≡ None → map Some (whole rows) ≡ rows
 rows_whole k earlier [] e = refl
-rows_whole k earlier (none ∷ rs) e = absurd (no-some (sym e))
-rows_whole k earlier (some r ∷ rs) e =
-    ap (λ (z : List (Option Row)). some r ∷ z) (rows_whole (suc k) (r ∷ earlier) rs (if_none (hold (row_rules earlier r)) (first_bad_row (suc k) (r ∷ earlier) rs) k e).1)
+rows_whole k earlier (None ∷ rs) e = absurd (no-some (sym e))
+rows_whole k earlier (Some r ∷ rs) e =
+    ap (λ (z : List (Option Row)). Some r ∷ z) (rows_whole (suc k) (r ∷ earlier) rs (if_none (hold (row_rules earlier r)) (first_bad_row (suc k) (r ∷ earlier) rs) k e).1)
 
-all_whole : {A : Type 0} (rules : A → List Bool) (k : ℕ) (xs : List (Option A)) → first_bad rules k xs ≡ none → map some (whole xs) ≡ xs
+all_whole : {A : Type 0} (rules : A → List Bool) (k : ℕ) (xs : List (Option A)) → first_bad rules k xs ≡ None → map Some (whole xs) ≡ xs
 all_whole rules k [] e = refl
-all_whole rules k (none ∷ xs) e = absurd (no-some (sym e))
-all_whole {A} rules k (some x ∷ xs) e =
-    ap (λ (z : List (Option A)). some x ∷ z) (all_whole rules (suc k) xs (if_none (hold (rules x)) (first_bad rules (suc k) xs) k e).1)
+all_whole rules k (None ∷ xs) e = absurd (no-some (sym e))
+all_whole {A} rules k (Some x ∷ xs) e =
+    ap (λ (z : List (Option A)). Some x ∷ z) (all_whole rules (suc k) xs (if_none (hold (rules x)) (first_bad rules (suc k) xs) k e).1)
 
 pub passed-again : (p : Posted) (t : Table) → intake p ≡ passed t → T (passes_intake t)
 unfolding intake passes_intake
@@ -70,7 +69,7 @@ passed-again p t e =
     (subst (λ (z : Verdict). T (is_passed z)) (sym e) tt))
   where
     same : (rows : List (Option Row)) (connectors : List (Option Connector)) (couplings : List (Option Coupling))
-        → map some (whole rows) ≡ rows → map some (whole connectors) ≡ connectors → map some (whole couplings) ≡ couplings
+        → map Some (whole rows) ≡ rows → map Some (whole connectors) ≡ connectors → map Some (whole couplings) ≡ couplings
         → ◌≡◌ {A = Posted} (record { rows = rows; connectors = connectors; couplings = couplings }) (handed (whole_table (record { rows = rows; connectors = connectors; couplings = couplings })))
     same rows connectors couplings x y z = λ i. record { rows = sym x i; connectors = sym y i; couplings = sym z i }
 
@@ -90,15 +89,15 @@ data Passing : List Row → List Row → Type 0 where
   no_more : {earlier : List Row} → Passing earlier []
   one_more : {earlier : List Row} {r : Row} {rs : List Row} → All T (row_rules earlier r) → Passing (r ∷ earlier) rs → Passing earlier (r ∷ rs)
 
-rows_pass : (k : ℕ) (earlier rows : List Row) → first_bad_row k earlier (map some rows) ≡ none → Passing earlier rows
+rows_pass : (k : ℕ) (earlier rows : List Row) → first_bad_row k earlier (map Some rows) ≡ None → Passing earlier rows
 rows_pass k earlier [] e = no_more
 rows_pass k earlier (r ∷ rs) e =
-    let z = if_none (hold (row_rules earlier r)) (first_bad_row (suc k) (r ∷ earlier) (map some rs)) k e in
+    let z = if_none (hold (row_rules earlier r)) (first_bad_row (suc k) (r ∷ earlier) (map Some rs)) k e in
     one_more (parts (row_rules earlier r) z.0) (rows_pass (suc k) (r ∷ earlier) rs z.1)
 
-all_pass : {A : Type 0} (rules : A → List Bool) (k : ℕ) (xs : List A) → first_bad rules k (map some xs) ≡ none → All (λ x. T (hold (rules x))) xs
+all_pass : {A : Type 0} (rules : A → List Bool) (k : ℕ) (xs : List A) → first_bad rules k (map Some xs) ≡ None → All (λ x. T (hold (rules x))) xs
 all_pass rules k [] e = nil
-all_pass rules k (x ∷ xs) e = let z = if_none (hold (rules x)) (first_bad rules (suc k) (map some xs)) k e in z.0 & all_pass rules (suc k) xs z.1
+all_pass rules k (x ∷ xs) e = let z = if_none (hold (rules x)) (first_bad rules (suc k) (map Some xs)) k e in z.0 & all_pass rules (suc k) xs z.1
 
 -- ---- ids and kinds
 row_fits : {earlier rows : List Row} → Passing earlier rows → (i : ℕ) → All T (kind_rules (get_or rows i no_row).kind) × T (is_id (get_or rows i no_row).id)
@@ -132,11 +131,11 @@ abbrev pub depths : List Row → List Row → List ℕ
 depths earlier [] = []
 depths earlier (r ∷ rs) = depth_of earlier r.parent ∷ depths (r ∷ earlier) rs
 
-top-depth : (earlier rows : List Row) (i : ℕ) → (get_or rows i no_row).parent ≡ none → get_or (depths earlier rows) i 1 ≡ 1
+top-depth : (earlier rows : List Row) (i : ℕ) → (get_or rows i no_row).parent ≡ None → get_or (depths earlier rows) i 1 ≡ 1
 top-depth earlier [] i e = refl
 top-depth earlier (r ∷ rs) zero e = ap (depth_of earlier) e ∙ one earlier
   where
-    one : (earlier : List Row) → depth_of earlier none ≡ 1
+    one : (earlier : List Row) → depth_of earlier None ≡ 1
     one [] = refl
     one (r ∷ earlier) = refl
 top-depth earlier (r ∷ rs) (suc i) e = top-depth (r ∷ earlier) rs i e
@@ -155,16 +154,16 @@ pub record Holder (earlier rows : List Row) (j p : ℕ) : Type 0 where
   pub couples : (get_or rows at no_row).kind ≡ coupled
   pub deeper : get_or (depths earlier rows) j 1 ≡ get_or (depths earlier rows) at 1 + 1
 
-coupled-in : (earlier : List Row) (p : ℕ) → T (parent_fits earlier (some p)) → T (is_in earlier p)
+coupled-in : (earlier : List Row) (p : ℕ) → T (parent_fits earlier (Some p)) → T (is_in earlier p)
 coupled-in [] p t = t
-coupled-in (r ∷ earlier) p t = elim (or_split (eqb r.id p && is_coupled r.kind) (parent_fits earlier (some p)) t) [
+coupled-in (r ∷ earlier) p t = elim (or_split (eqb r.id p && is_coupled r.kind) (parent_fits earlier (Some p)) t) [
   | inl u ↦ or_l (eqb r.id p) (is_in earlier p) (and_l (eqb r.id p) (is_coupled r.kind) u)
   | inr u ↦ or_r (eqb r.id p) (is_in earlier p) (coupled-in earlier p u)
 ]
 
 -- it is one of these rows, or of the earlier ones
-holder : {earlier rows : List Row} → Passing earlier rows → (j p : ℕ) → (get_or rows j no_row).parent ≡ some p
-    → Holder earlier rows j p ⊎ (T (parent_fits earlier (some p)) × (get_or (depths earlier rows) j 1 ≡ depth_of earlier (some p)))
+holder : {earlier rows : List Row} → Passing earlier rows → (j p : ℕ) → (get_or rows j no_row).parent ≡ Some p
+    → Holder earlier rows j p ⊎ (T (parent_fits earlier (Some p)) × (get_or (depths earlier rows) j 1 ≡ depth_of earlier (Some p)))
 holder no_more j p e = absurd (no-some e)
 holder {earlier} (one_more (a & b & c & d) q) zero p e = inr (subst (λ (z : Option ℕ). T (parent_fits earlier z)) e c, ap (depth_of earlier) e)
 holder {earlier} (one_more {r = r} {rs = rs} (a & b & c) q) (suc j) p e = elim (holder q j p e) [
@@ -172,10 +171,10 @@ holder {earlier} (one_more {r = r} {rs = rs} (a & b & c) q) (suc j) p e = elim (
   | inr k ↦ go (eqb r.id p) (eqb→eq r.id p) k.0 k.1
 ]
   where
-    go : (x : Bool) → (T x → r.id ≡ p) → T (if x && is_coupled r.kind then true else parent_fits earlier (some p))
-        → get_or (depths (r ∷ earlier) rs) j 1 ≡ (if x then depth_of earlier r.parent + 1 else depth_of earlier (some p))
-        → Holder earlier (r ∷ rs) (suc j) p ⊎ (T (parent_fits earlier (some p)) × (get_or (depths (r ∷ earlier) rs) j 1 ≡ depth_of earlier (some p)))
-    go true n f g = elim (or_split (is_coupled r.kind) (parent_fits earlier (some p)) f) [
+    go : (x : Bool) → (T x → r.id ≡ p) → T (if x && is_coupled r.kind then true else parent_fits earlier (Some p))
+        → get_or (depths (r ∷ earlier) rs) j 1 ≡ (if x then depth_of earlier r.parent + 1 else depth_of earlier (Some p))
+        → Holder earlier (r ∷ rs) (suc j) p ⊎ (T (parent_fits earlier (Some p)) × (get_or (depths (r ∷ earlier) rs) j 1 ≡ depth_of earlier (Some p)))
+    go true n f g = elim (or_split (is_coupled r.kind) (parent_fits earlier (Some p)) f) [
       | inl u ↦ inl (record { at = 0; before = omega arith; named = n tt; couples = tells (coupled-decides r.kind) u; deeper = g })
       | inr u ↦ absurd (T_not (is_in earlier r.id) b (subst (λ (z : ℕ). T (is_in earlier z)) (sym (n tt)) (coupled-in earlier p u)))
     ]
@@ -196,9 +195,9 @@ pub record Fine (t : Table) : Type 0 where
   -- "Ids are unique over the whole table."
   pub unique : (i j : ℕ) → i < length t.rows → j < length t.rows → id_at t i ≡ id_at t j → i ≡ j
   -- "A component's row names its parent, which is an earlier row and a Coupled", and it is one deeper
-  pub parents : (j p : ℕ) → (row_at t j).parent ≡ some p → Holder [] t.rows j p
+  pub parents : (j p : ℕ) → (row_at t j).parent ≡ Some p → Holder [] t.rows j p
   -- "A Coupled may hold another Coupled, to depth 4 (a row without parent has depth 1)."
-  pub top : (i : ℕ) → (row_at t i).parent ≡ none → depth_at t i ≡ 1
+  pub top : (i : ℕ) → (row_at t i).parent ≡ None → depth_at t i ≡ 1
   pub shallow : (i : ℕ) → kind_at t i ≡ coupled → depth_at t i ≤ deepest
   pub links : All (λ c. T (hold (connector_rules c))) t.connectors
   pub inner : All (λ c. T (hold (coupling_rules t.rows c))) t.couplings
@@ -220,14 +219,14 @@ fine t h = go (intake (handed t)) refl h
       shallow = most-depth p;
       links = all_pass connector_rules 0 t.connectors c.connectors;
       inner = all_pass (coupling_rules t.rows) 0 t.couplings
-          (subst (λ (z : List Row). first_bad (coupling_rules z) 0 (map some t.couplings) ≡ none) (whole-some t.rows) c.couplings);
+          (subst (λ (z : List Row). first_bad (coupling_rules z) 0 (map Some t.couplings) ≡ None) (whole-some t.rows) c.couplings);
     }
       where
         sizes : All T (size_rules (handed t)) → (length t.rows ≤ most_rows) × (length t.connectors ≤ most_connectors) × (length t.couplings ≤ most_couplings)
         sizes (x & y & z & nil) = (
-          subst (λ (n : ℕ). n ≤ most_rows) (length-map t.rows some) (leb→le (length (map some t.rows)) most_rows x),
-          subst (λ (n : ℕ). n ≤ most_connectors) (length-map t.connectors some) (leb→le (length (map some t.connectors)) most_connectors y),
-          subst (λ (n : ℕ). n ≤ most_couplings) (length-map t.couplings some) (leb→le (length (map some t.couplings)) most_couplings z),
+          subst (λ (n : ℕ). n ≤ most_rows) (length-map t.rows Some) (leb→le (length (map Some t.rows)) most_rows x),
+          subst (λ (n : ℕ). n ≤ most_connectors) (length-map t.connectors Some) (leb→le (length (map Some t.connectors)) most_connectors y),
+          subst (λ (n : ℕ). n ≤ most_couplings) (length-map t.couplings Some) (leb→le (length (map Some t.couplings)) most_couplings z),
         )
 
     go : (v : Verdict) → intake (handed t) ≡ v → T (is_passed v) → Fine t
@@ -282,8 +281,8 @@ module _ (t : Table) (ok : Fine t) where
       one_down i j l c s g (suc d) e p = (d, (let z : depth_at t j + d ≡ levels = omega arith in z), down (suc d) i j l c s p)
 
       up : (i : ℕ) → In i → (o : Option ℕ) → (row_at t i).parent ≡ o → ((k : ℕ) → k < i → Found k) → Found i
-      up i l none q rec = (deepest, (let z = ok.top i q in let w : depth_at t i + deepest ≡ levels = omega arith in w), top i l (subst (λ (z : Option ℕ). T (is_parentless z)) (sym q) tt))
-      up i l (some p) q rec =
+      up i l None q rec = (deepest, (let z = ok.top i q in let w : depth_at t i + deepest ≡ levels = omega arith in w), top i l (subst (λ (z : Option ℕ). T (is_parentless z)) (sym q) tt))
+      up i l (Some p) q rec =
           let h = ok.parents i p q in
           let f = rec h.at h.before in
           one_down h.at i l h.couples

@@ -1,7 +1,6 @@
 -- The tools of the proofs: tests taken apart, what holds of every element, and what holds of an outcome. `Ends B Q o` says that a refusal in o keeps B, and that what was done keeps Q; one law for each word of `Base`. Assumes nothing.
-use Rattle.std.specs.Prelude.{ℕ, ◌≤◌, ◌≡◌, refl, ◌⊎◌, Bool, true, false, not, List, [], ◌∷◌, ◌++◌, map, length, T, leb, if◌then◌else◌}
+use Rattle.std.specs.Prelude.{ℕ, ◌≤◌, ◌≡◌, refl, ◌⊎◌, Bool, true, false, not, List, [], ◌∷◌, ◌++◌, map, length, T, leb, if◌then◌else◌, Option, None, Some}
 use Rattle.std.proofs.Common.{subst, inl, inr, arith, leb→le}
-use Rattle.std.proofs.Math.Option.{Option, none, some}
 use Rattle.rules.specs.declared.Refusal.{Refusal}
 use Rattle.rules.specs.Base.{Outcome, refused, done, ◌>>=◌, each, those, chosen, every, hold, at_most}
 
@@ -46,7 +45,7 @@ pub two-not : (b : Bool) → T (not (not b)) → T b
 two-not true t = tt
 two-not false t = t
 
-pub no-some : {A : Type 0} {x : A} → none ≡ some x → ⊥
+pub no-some : {A : Type 0} {x : A} → None ≡ Some x → ⊥
 no-some e = let n : ◌≡◌ {A = ℕ} 0 1 = cc in omega arith
 
 -- ---- every element
@@ -98,13 +97,13 @@ all-those {R = R} test (◌&◌ {x = x} {xs = xs} h p) k = go (test x) (k x h) (
     go false f q = q
 
 -- what is made of each
-pub all-chosen : {A C : Type 0} {P : A → Type 0} {R : C → Type 0} (choose : A → Option C) {xs : List A} → All P xs → ((x : A) (y : C) → P x → choose x ≡ some y → R y) → All R (chosen choose xs)
+pub all-chosen : {A C : Type 0} {P : A → Type 0} {R : C → Type 0} (choose : A → Option C) {xs : List A} → All P xs → ((x : A) (y : C) → P x → choose x ≡ Some y → R y) → All R (chosen choose xs)
 all-chosen choose nil k = nil
 all-chosen {C = C} {R = R} choose (◌&◌ {x = x} h p) k = go (choose x) (λ y e. k x y h e) (all-chosen choose p k)
   where
-    go : (o : Option C) {ys : List C} → ((y : C) → o ≡ some y → R y) → All R ys → All R (elim o [ none ↦ ys | some y ↦ y ∷ ys ])
-    go none k q = q
-    go (some y) k q = k y refl & q
+    go : (o : Option C) {ys : List C} → ((y : C) → o ≡ Some y → R y) → All R ys → All R (elim o [ None ↦ ys | Some y ↦ y ∷ ys ])
+    go None k q = q
+    go (Some y) k q = k y refl & q
 
 pub every-all : {A : Type 0} (test : A → Bool) (xs : List A) → T (every test xs) → All (λ x. T (test x)) xs
 every-all test [] t = nil

@@ -1,6 +1,5 @@
 -- Small tables, messages and runs that the computed cases are made of. Definitions only. Assumes nothing.
-use Rattle.std.specs.Prelude.{ℕ, zero, suc, List, [], ◌∷◌, map, length, Float}
-use Rattle.std.proofs.Math.Option.{none, some}
+use Rattle.std.specs.Prelude.{ℕ, zero, suc, List, [], ◌∷◌, map, length, Float, None, Some}
 use Rattle.std.specs.Float.{binary64}
 use Rattle.std.specs.Float.Ieee.{of_bits, to_bits}
 use Rattle.times.specs.Time.{instant, never}
@@ -46,13 +45,13 @@ minus_zero = at 0x8000_0000_0000_0000
 
 -- ---- rows: ports in 1 and out 2, a stopwatch's 1, 2, 3 and out 4
 abbrev pub posted : List Row → List Connector → List Coupling → Posted
-posted rows connectors couplings = record { rows = map some rows; connectors = map some connectors; couplings = map some couplings }
+posted rows connectors couplings = record { rows = map Some rows; connectors = map Some connectors; couplings = map Some couplings }
 
 abbrev pub row : ℕ → Kind → Row
-row id kind = record { id = id; parent = none; kind = kind }
+row id kind = record { id = id; parent = None; kind = kind }
 
 abbrev pub within : ℕ → ℕ → Kind → Row
-within parent id kind = record { id = id; parent = some parent; kind = kind }
+within parent id kind = record { id = id; parent = Some parent; kind = kind }
 
 abbrev pub a_batcher : ℕ → Float → Kind
 a_batcher size time = batcher (record { input = 1; output = 2; max_batch_size = size; max_batch_time = time })

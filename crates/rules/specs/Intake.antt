@@ -1,6 +1,5 @@
 -- Table intake: refusals 1 to 3, with the row. Definitions only. Assumes nothing.
-use Rattle.std.specs.Prelude.{ℕ, suc, ◌+◌, Bool, true, false, not, ◌&&◌, List, [], ◌∷◌, map, length, leb, eqb, if◌then◌else◌}
-use Rattle.std.proofs.Math.Option.{Option, none, some}
+use Rattle.std.specs.Prelude.{ℕ, suc, ◌+◌, Bool, true, false, not, ◌&&◌, List, [], ◌∷◌, map, length, leb, eqb, if◌then◌else◌, Option, None, Some}
 use Rattle.times.specs.Time.{is_time}
 use Rattle.rules.specs.declared.Refusal.TheVariants.{TooLarge, BadRow, BadCoupling}
 use Rattle.rules.specs.Sizes.{is_id, is_port, is_word, most_rows, most_connectors, most_couplings, deepest, largest_batch}
@@ -38,14 +37,14 @@ is_coupled_id rows id = some_of (λ (r : Row). eqb r.id id && is_coupled r.kind)
 
 -- "A component's row names its parent, which is an earlier row and a Coupled."
 abbrev pub parent_fits : List Row → Option ℕ → Bool
-parent_fits earlier none = true
-parent_fits earlier (some parent) = is_coupled_id earlier parent
+parent_fits earlier None = true
+parent_fits earlier (Some parent) = is_coupled_id earlier parent
 
 -- "(a row without parent has depth 1)", and a component is one deeper than its parent
 abbrev pub depth_of : List Row → Option ℕ → ℕ
 depth_of [] parent = 1
-depth_of (r ∷ earlier) none = 1
-depth_of (r ∷ earlier) (some parent) = if eqb r.id parent then depth_of earlier r.parent + 1 else depth_of earlier (some parent)
+depth_of (r ∷ earlier) None = 1
+depth_of (r ∷ earlier) (Some parent) = if eqb r.id parent then depth_of earlier r.parent + 1 else depth_of earlier (Some parent)
 
 -- "A Coupled may hold another Coupled, to depth 4"
 abbrev pub depth_fits : List Row → Row → Bool
@@ -76,14 +75,14 @@ pub data Verdict : Type 0 where
 
 -- the first row, counted from k, that breaks a rule
 abbrev pub first_bad_row : ℕ → List Row → List (Option Row) → Option ℕ
-first_bad_row k earlier [] = none
-first_bad_row k earlier (none ∷ rs) = some k
-first_bad_row k earlier (some r ∷ rs) = let rest = first_bad_row (suc k) (r ∷ earlier) rs in if hold (row_rules earlier r) then rest else some k
+first_bad_row k earlier [] = None
+first_bad_row k earlier (None ∷ rs) = Some k
+first_bad_row k earlier (Some r ∷ rs) = let rest = first_bad_row (suc k) (r ∷ earlier) rs in if hold (row_rules earlier r) then rest else Some k
 
 abbrev pub first_bad : {A : Type 0} → (A → List Bool) → ℕ → List (Option A) → Option ℕ
-first_bad rules k [] = none
-first_bad rules k (none ∷ xs) = some k
-first_bad rules k (some x ∷ xs) = let rest = first_bad rules (suc k) xs in if hold (rules x) then rest else some k
+first_bad rules k [] = None
+first_bad rules k (None ∷ xs) = Some k
+first_bad rules k (Some x ∷ xs) = let rest = first_bad rules (suc k) xs in if hold (rules x) then rest else Some k
 
 abbrev pub whole : {A : Type 0} → List (Option A) → List A
 whole xs = chosen (λ x. x) xs
@@ -92,12 +91,12 @@ unfoldable pub intake : Posted → Verdict
 intake p =
     if hold (size_rules p)
     then elim (first_bad_row 0 [] p.rows) [
-      | some row ↦ bad_row row
-      | none ↦ elim (first_bad connector_rules 0 p.connectors) [
-        | some row ↦ bad_connector row
-        | none ↦ elim (first_bad (coupling_rules (whole p.rows)) 0 p.couplings) [
-          | some row ↦ bad_coupling row
-          | none ↦ passed (record { rows = whole p.rows; connectors = whole p.connectors; couplings = whole p.couplings })
+      | Some row ↦ bad_row row
+      | None ↦ elim (first_bad connector_rules 0 p.connectors) [
+        | Some row ↦ bad_connector row
+        | None ↦ elim (first_bad (coupling_rules (whole p.rows)) 0 p.couplings) [
+          | Some row ↦ bad_coupling row
+          | None ↦ passed (record { rows = whole p.rows; connectors = whole p.connectors; couplings = whole p.couplings })
         ]
       ]
     ]
@@ -113,7 +112,7 @@ taken_in (passed t) = done t
 
 -- a table with all rows whole, handed in
 abbrev pub handed : Table → Posted
-handed t = record { rows = map some t.rows; connectors = map some t.connectors; couplings = map some t.couplings }
+handed t = record { rows = map Some t.rows; connectors = map Some t.connectors; couplings = map Some t.couplings }
 
 abbrev pub is_passed : Verdict → Bool
 is_passed too_large = false

@@ -1,8 +1,7 @@
 -- Each model's events keep what refusal 20 asks of its state, put out contents only, and leave the place in the service list a word. Assumes nothing.
-use Rattle.std.specs.Prelude.{ℕ, zero, suc, ◌+◌, ◌*◌, ◌≤◌, ◌<◌, ◌^◌, ◌≡◌, refl, Bool, true, false, not, ◌&&◌, get_or, leb, ltb, eqb, Float, if◌then◌else◌}
+use Rattle.std.specs.Prelude.{ℕ, zero, suc, ◌+◌, ◌*◌, ◌≤◌, ◌<◌, ◌^◌, ◌≡◌, refl, Bool, true, false, not, ◌&&◌, get_or, leb, ltb, eqb, Float, if◌then◌else◌, Option, None, Some}
 use Rattle.std.proofs.Common.{sym, ap, ◌∙◌, subst, length-append, eqb→eq}
 use mathlib.Core.List.{List, [], ◌∷◌, ◌++◌, map}
-use Rattle.std.proofs.Math.Option.{Option, none, some}
 use native.Mathlib.Omega.{arith}
 use Rattle.std.proofs.Math.ListN.{length, take, drop, length-drop}
 use Rattle.std.proofs.lemmas.List.{length-map}
@@ -260,7 +259,7 @@ module _ (B : Refusal → Type 0) (other : (r : Refusal) → Other r → B r) wh
       )))
     where
       unmarked : Marks
-      unmarked = record { name = name; start = none; stop = none }
+      unmarked = record { name = name; start = None; stop = None }
 
       go : (b : Bool) (j : Marks) → T (marks_fit j) → T (marks_fit (if b then mark j else j))
       go true j t = m.fits j t
@@ -283,10 +282,10 @@ module _ (B : Refusal → Type 0) (other : (r : Refusal) → Other r → B r) wh
 abbrev Named : Duration → Type 0
 Named d = T (is_content d.name)
 
-between-named : (name : ℕ) (start stop : Option Float) (d : Duration) → T (is_content name) → between name start stop ≡ some d → Named d
-between-named name none stop d t e = absurd (no-some e)
-between-named name (some x) none d t e = absurd (no-some e)
-between-named name (some x) (some y) d t e = subst (λ (n : ℕ). T (is_content n)) (let z : name ≡ d.name = cc in z) t
+between-named : (name : ℕ) (start stop : Option Float) (d : Duration) → T (is_content name) → between name start stop ≡ Some d → Named d
+between-named name None stop d t e = absurd (no-some e)
+between-named name (Some x) None d t e = absurd (no-some e)
+between-named name (Some x) (Some y) d t e = subst (λ (n : ℕ). T (is_content n)) (let z : name ≡ d.name = cc in z) t
 
 best-named : (metric : Metric) (best : Duration) (ds : List Duration) → Named best → All Named ds → Named (best_of metric best ds)
 best-named metric best [] t p = t

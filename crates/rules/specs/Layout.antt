@@ -1,6 +1,5 @@
 -- docs/LAYOUT.md as definitions: from the lent words of a table to its rows, and from messages to the rows of an output. Definitions only. Assumes nothing.
-use Rattle.std.specs.Prelude.{ℕ, zero, suc, ◌*◌, ◌/◌, ◌%◌, Bool, not, List, [], ◌∷◌, ◌++◌, map, length, get_or, take, drop, ltb, eqb, if◌then◌else◌}
-use Rattle.std.proofs.Math.Option.{Option, none, some}
+use Rattle.std.specs.Prelude.{ℕ, zero, suc, ◌*◌, ◌/◌, ◌%◌, Bool, not, List, [], ◌∷◌, ◌++◌, map, length, get_or, take, drop, ltb, eqb, if◌then◌else◌, Option, None, Some}
 use Rattle.std.specs.Float.{binary64}
 use Rattle.std.specs.Float.Ieee.{of_bits, to_bits}
 use Rattle.rules.specs.declared.Metric.{Metric}
@@ -31,7 +30,7 @@ abbrev pub is_given : ℕ → List ℕ → Bool
 is_given field row = eqb (cell row 2 / field % 2) 1
 
 abbrev pub parent_in : List ℕ → Option ℕ
-parent_in row = if is_given 1 row then some (cell row 3) else none
+parent_in row = if is_given 1 row then Some (cell row 3) else None
 
 -- A7 of 02: "Rows that omit `queue_capacity` now get 32"
 abbrev pub capacity_in : List ℕ → ℕ
@@ -41,20 +40,20 @@ capacity_in row = if is_given 2 row then cell row 8 else omitted_capacity
 abbrev pub metric_in : List ℕ → Option Metric
 metric_in row =
     if is_given 4 row
-    then (if eqb (cell row 8) 0 then some Minimum else if eqb (cell row 8) 1 then some Maximum else none)
-    else some Minimum
+    then (if eqb (cell row 8) 0 then Some Minimum else if eqb (cell row 8) 1 then Some Maximum else None)
+    else Some Minimum
 
 abbrev pub stopwatch_in : List ℕ → Option Metric → Option Kind
-stopwatch_in row none = none
-stopwatch_in row (some metric) = some (stopwatch (record { start = cell row 4; stop = cell row 5; ask = cell row 6; output = cell row 7; metric = metric }))
+stopwatch_in row None = None
+stopwatch_in row (Some metric) = Some (stopwatch (record { start = cell row 4; stop = cell row 5; ask = cell row 6; output = cell row 7; metric = metric }))
 
 -- word 1, the kind: none where it "is none of the four, its metric neither of the two"
 abbrev pub kind_in : List ℕ → Option Kind
 kind_in row =
-    if eqb (cell row 1) 1 then some (processor (record { input = cell row 4; output = cell row 7; queue_capacity = capacity_in row }))
-    else if eqb (cell row 1) 2 then some (batcher (record { input = cell row 4; output = cell row 7; max_batch_size = cell row 8; max_batch_time = of_bits binary64 (cell row 9) }))
+    if eqb (cell row 1) 1 then Some (processor (record { input = cell row 4; output = cell row 7; queue_capacity = capacity_in row }))
+    else if eqb (cell row 1) 2 then Some (batcher (record { input = cell row 4; output = cell row 7; max_batch_size = cell row 8; max_batch_time = of_bits binary64 (cell row 9) }))
     else if eqb (cell row 1) 3 then stopwatch_in row (metric_in row)
-    else if eqb (cell row 1) 4 then some coupled else none
+    else if eqb (cell row 1) 4 then Some coupled else None
 
 -- "Every id and port cell is below 2^16, used by the kind or not": those that the kind does not use
 abbrev pub unused_ports : Kind → List ℕ → List ℕ
@@ -64,11 +63,11 @@ unused_ports (stopwatch w) row = []
 unused_ports coupled row = cell row 4 ∷ cell row 5 ∷ cell row 6 ∷ cell row 7 ∷ []
 
 abbrev pub row_in : List ℕ → Option Kind → Option Row
-row_in row none = none
-row_in row (some kind) =
+row_in row None = None
+row_in row (Some kind) =
     if hold (eqb (length row) model_width ∷ ltb (cell row 2) 8 ∷ every is_port (unused_ports kind row) ∷ [])
-    then some (record { id = cell row 0; parent = parent_in row; kind = kind })
-    else none
+    then Some (record { id = cell row 0; parent = parent_in row; kind = kind })
+    else None
 
 abbrev pub model_row : List ℕ → Option Row
 model_row row = row_in row (kind_in row)
@@ -88,8 +87,8 @@ connector_width = 4
 abbrev pub connector_row : List ℕ → Option Connector
 connector_row row =
     if eqb (length row) connector_width
-    then some (record { source = cell row 0; source_port = cell row 1; target = cell row 2; target_port = cell row 3 })
-    else none
+    then Some (record { source = cell row 0; source_port = cell row 1; target = cell row 2; target_port = cell row 3 })
+    else None
 
 -- ---- a coupling row, of 6 words: owner id, kind (1 external input, 2 external output, 3 internal), source id, source port, target id, target port
 abbrev pub coupling_width : ℕ
@@ -98,14 +97,14 @@ coupling_width = 6
 -- the coupling, and the id that its kind does not use
 abbrev pub coupling_in : List ℕ → Option (Coupling × ℕ)
 coupling_in row =
-    if eqb (cell row 1) 1 then some (external_input (cell row 0) (cell row 3) (cell row 4) (cell row 5), cell row 2)
-    else if eqb (cell row 1) 2 then some (external_output (cell row 0) (cell row 2) (cell row 3) (cell row 5), cell row 4)
-    else if eqb (cell row 1) 3 then some (internal_coupling (cell row 0) (cell row 2) (cell row 3) (cell row 4) (cell row 5), 0)
-    else none
+    if eqb (cell row 1) 1 then Some (external_input (cell row 0) (cell row 3) (cell row 4) (cell row 5), cell row 2)
+    else if eqb (cell row 1) 2 then Some (external_output (cell row 0) (cell row 2) (cell row 3) (cell row 5), cell row 4)
+    else if eqb (cell row 1) 3 then Some (internal_coupling (cell row 0) (cell row 2) (cell row 3) (cell row 4) (cell row 5), 0)
+    else None
 
 abbrev pub whole_coupling : List ℕ → Option (Coupling × ℕ) → Option Coupling
-whole_coupling row none = none
-whole_coupling row (some (coupling, unused)) = if hold (eqb (length row) coupling_width ∷ is_id unused ∷ []) then some coupling else none
+whole_coupling row None = None
+whole_coupling row (Some (coupling, unused)) = if hold (eqb (length row) coupling_width ∷ is_id unused ∷ []) then Some coupling else None
 
 abbrev pub coupling_row : List ℕ → Option Coupling
 coupling_row row = whole_coupling row (coupling_in row)

@@ -1,6 +1,5 @@
 -- The Processor, the Batcher and the Stopwatch ("The four models" of 01). "On an event, each hands its next state back to the caller." Definitions only. Assumes nothing.
-use Rattle.std.specs.Prelude.{ℕ, ◌+◌, ◌*◌, Bool, not, List, [], ◌∷◌, ◌++◌, map, pos, length, get_or, take, drop, leb, ltb, eqb, Float, if◌then◌else◌}
-use Rattle.std.proofs.Math.Option.{Option, none, some}
+use Rattle.std.specs.Prelude.{ℕ, ◌+◌, ◌*◌, Bool, not, List, [], ◌∷◌, ◌++◌, map, pos, length, get_or, take, drop, leb, ltb, eqb, Float, if◌then◌else◌, Option, None, Some}
 use Rattle.std.specs.Float.{binary64}
 use Rattle.std.specs.Float.Ieee.{add, sub, div, of_int, lt}
 use Rattle.times.specs.Time.{instant, never, is_time}
@@ -100,13 +99,13 @@ is_named name j = eqb j.name name
 abbrev pub marked : (Marks → Marks) → ℕ → List Marks → Outcome (List Marks)
 marked mark name jobs =
     if some_of (is_named name) jobs then done (map (λ j. if is_named name j then mark j else j) jobs)
-    else keep (mark (record { name = name; start = none; stop = none })) jobs
+    else keep (mark (record { name = name; start = None; stop = None })) jobs
 
 abbrev pub started : Float → Marks → Marks
-started clock j = record { name = j.name; start = some clock; stop = j.stop }
+started clock j = record { name = j.name; start = Some clock; stop = j.stop }
 
 abbrev pub stopped : Float → Marks → Marks
-stopped clock j = record { name = j.name; start = j.start; stop = some clock }
+stopped clock j = record { name = j.name; start = j.start; stop = Some clock }
 
 abbrev pub marked_state : StopwatchState → Outcome (List Marks) → Outcome (StopwatchState × Fate)
 marked_state s marking = marking >>= λ jobs. done (record { phase = s.phase; timer = s.timer; jobs = jobs }, Marked)
@@ -125,9 +124,9 @@ pub record Duration : Type 0 where
   pub length : Float
 
 abbrev pub between : ℕ → Option Float → Option Float → Option Duration
-between name none stop = none
-between name (some start) none = none
-between name (some start) (some stop) = some (record { name = name; length = sub binary64 stop start })
+between name None stop = None
+between name (Some start) None = None
+between name (Some start) (Some stop) = Some (record { name = name; length = sub binary64 stop start })
 
 abbrev pub durations : List Marks → List Duration
 durations jobs = chosen (λ j. between j.name j.start j.stop) jobs
@@ -161,5 +160,5 @@ summed sum [] = sum
 summed sum (d ∷ ds) = summed (add binary64 sum d.length) ds
 
 abbrev pub mean : List Duration → Option Float
-mean [] = none
-mean (d ∷ ds) = some (div binary64 (summed instant (d ∷ ds)) (of_int binary64 (pos (length (d ∷ ds)))))
+mean [] = None
+mean (d ∷ ds) = Some (div binary64 (summed instant (d ∷ ds)) (of_int binary64 (pos (length (d ∷ ds)))))

@@ -1,6 +1,5 @@
 -- The calls of 01, and what refusal 20 asks, pinned: each case is computed, and an edit of its sentence breaks it. Assumes nothing.
-use Rattle.std.specs.Prelude.{ℕ, ◌-◌, ◌^◌, ◌≡◌, refl, Bool, true, false, List, [], ◌∷◌, ◌++◌, map, pos, replicate, Float}
-use Rattle.std.proofs.Math.Option.{none, some}
+use Rattle.std.specs.Prelude.{ℕ, ◌-◌, ◌^◌, ◌≡◌, refl, Bool, true, false, List, [], ◌∷◌, ◌++◌, map, pos, replicate, Float, None, Some}
 use Rattle.std.specs.Float.{fin}
 use Rattle.std.specs.Float.Ieee.{add, sub, div, of_int, lt, le, eq, fits, of_bits, to_bits}
 use Rattle.times.specs.Time.{instant, never, latest, is_time, is_timer, least_of}
@@ -28,7 +27,7 @@ abbrev floor_table : Table
 floor_table = record { rows = floor; connectors = link 1 2 2 1 ∷ []; couplings = [] }
 
 abbrev marks_of : ℕ → Float → Float → Marks
-marks_of name start stop = record { name = name; start = some start; stop = some stop }
+marks_of name start stop = record { name = name; start = Some start; stop = Some stop }
 
 abbrev floor_states : List State
 floor_states = active (7 ∷ []) two ∷ batch (8 ∷ []) four ∷ watch (marks_of 9 one four ∷ []) ∷ of_coupled (parked_at 5 1 6 ∷ []) ∷ no_batch ∷ []
@@ -89,8 +88,8 @@ pub record Making : Type 0 where
   -- "Status: phase for processor and batcher; for a stopwatch the mean ..; for a Coupled its parked count"
   pub status-processor : get_status 1 midst ≡ done (OfProcessor working.Active)
   pub status-batcher : get_status 2 midst ≡ done (OfBatcher batching.Batching)
-  pub status-stopwatch : get_status 3 midst ≡ done (Mean (some three))
-  pub status-none : get_status 3 (begun floor_table) ≡ done (Mean none)
+  pub status-stopwatch : get_status 3 midst ≡ done (Mean (Some three))
+  pub status-none : get_status 3 (begun floor_table) ≡ done (Mean None)
   pub status-coupled : get_status 4 midst ≡ done (ParkedCount 1)
   -- 4: "status of an id not among the models without parent"
   pub status-component : get_status 5 midst ≡ refused ModelNotFound
@@ -303,10 +302,10 @@ abbrev watch_of : Float → List Marks → State
 watch_of timer jobs = of_stopwatch (record { phase = watching.Passive; timer = timer; jobs = jobs })
 
 abbrev started_at : ℕ → Float → Marks
-started_at name start = record { name = name; start = some start; stop = none }
+started_at name start = record { name = name; start = Some start; stop = None }
 
 abbrev stopped_at : ℕ → Float → Marks
-stopped_at name stop = record { name = name; start = none; stop = some stop }
+stopped_at name stop = record { name = name; start = None; stop = Some stop }
 
 pub record Asked : Type 0 where
   pub midst-fits : is_valid midst ≡ true

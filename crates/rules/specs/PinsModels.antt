@@ -1,6 +1,5 @@
 -- "The four models" of 01, the three atoms, pinned: each case is computed, and an edit of its sentence breaks it. Assumes nothing.
-use Rattle.std.specs.Prelude.{ℕ, ◌+◌, ◌-◌, ◌^◌, ◌≡◌, refl, List, [], ◌∷◌, ◌++◌, map, Float}
-use Rattle.std.proofs.Math.Option.{Option, none, some}
+use Rattle.std.specs.Prelude.{ℕ, ◌+◌, ◌-◌, ◌^◌, ◌≡◌, refl, List, [], ◌∷◌, ◌++◌, map, Float, Option, None, Some}
 use Rattle.std.specs.Float.Ieee.{add, sub, div, of_int, lt, le, fits, of_bits}
 use Rattle.times.specs.Time.{instant, never, is_time}
 use Rattle.rules.specs.declared.Refusal.TheVariants.{InvalidMessage, InvalidModelState, NoQueueRoom, NoServiceTime, BadTime}
@@ -211,34 +210,34 @@ abbrev idle : List Marks → StopwatchState
 idle jobs = measures watching.Passive never jobs
 
 abbrev others : List Marks
-others = mark 7 (some one) none ∷ mark 8 none (some two) ∷ []
+others = mark 7 (Some one) None ∷ mark 8 None (Some two) ∷ []
 
 -- 64 names, from 1 or from 9 on, each started at 1
 abbrev named : ℕ → List Marks
-named first = map (λ k. mark k (some one) none) (from first 64)
+named first = map (λ k. mark k (Some one) None) (from first 64)
 
 -- what is put out when it is asked, and the state after
 abbrev answers : Metric → List Marks → StopwatchState × List ℕ
 answers metric jobs = stopwatch_internal (watch_of metric) (measures watching.JobFetch instant jobs)
 
 abbrev lasting : ℕ → Float → Float → Marks
-lasting name start stop = mark name (some start) (some stop)
+lasting name start stop = mark name (Some start) (Some stop)
 
 abbrev two_to_54 : Float
 two_to_54 = at 0x4350_0000_0000_0000
 
 pub record Stopwatches : Type 0 where
   -- "Start and stop set the clock on the job of that name, making it if new"
-  pub start-new : hears 1 (idle others) ≡ done (idle (others ++ mark 9 (some five) none ∷ []), Marked)
-  pub stop-new : hears 2 (idle others) ≡ done (idle (others ++ mark 9 none (some five) ∷ []), Marked)
-  pub start-known : hears 1 (idle (mark 9 (some one) (some two) ∷ others)) ≡ done (idle (mark 9 (some five) (some two) ∷ others), Marked)
-  pub stop-known : hears 2 (idle (others ++ mark 9 (some one) none ∷ [])) ≡ done (idle (others ++ mark 9 (some one) (some five) ∷ []), Marked)
-  pub phase-stays : hears 1 (measures watching.JobFetch instant []) ≡ done (measures watching.JobFetch instant (mark 9 (some five) none ∷ []), Marked)
-  pub phase-stays-stop : hears 2 (measures watching.JobFetch instant []) ≡ done (measures watching.JobFetch instant (mark 9 none (some five) ∷ []), Marked)
+  pub start-new : hears 1 (idle others) ≡ done (idle (others ++ mark 9 (Some five) None ∷ []), Marked)
+  pub stop-new : hears 2 (idle others) ≡ done (idle (others ++ mark 9 None (Some five) ∷ []), Marked)
+  pub start-known : hears 1 (idle (mark 9 (Some one) (Some two) ∷ others)) ≡ done (idle (mark 9 (Some five) (Some two) ∷ others), Marked)
+  pub stop-known : hears 2 (idle (others ++ mark 9 (Some one) None ∷ [])) ≡ done (idle (others ++ mark 9 (Some one) (Some five) ∷ []), Marked)
+  pub phase-stays : hears 1 (measures watching.JobFetch instant []) ≡ done (measures watching.JobFetch instant (mark 9 (Some five) None ∷ []), Marked)
+  pub phase-stays-stop : hears 2 (measures watching.JobFetch instant []) ≡ done (measures watching.JobFetch instant (mark 9 None (Some five) ∷ []), Marked)
   -- "(7 if 64 names)"
   pub no_room : hears 1 (idle (named 10)) ≡ refused NoQueueRoom
   pub no-room-stop : hears 2 (idle (named 10)) ≡ refused NoQueueRoom
-  pub known-among-64 : hears 2 (idle (named 9)) ≡ done (idle (mark 9 (some one) (some five) ∷ map (λ k. mark k (some one) none) (from 10 63)), Marked)
+  pub known-among-64 : hears 2 (idle (named 9)) ≡ done (idle (mark 9 (Some one) (Some five) ∷ map (λ k. mark k (Some one) None) (from 10 63)), Marked)
   -- "Metric: JobFetch, timer 0."
   pub metric : hears 3 (idle others) ≡ done (measures watching.JobFetch instant others, Asked)
   -- 5: "stopwatch, unknown port"; its output is none of the three
@@ -255,16 +254,16 @@ pub record Stopwatches : Type 0 where
   -- "stop less start, rounded once": 2^54 - 1 is 2^54, as 2^54 - 0 is
   pub rounded : (answers Maximum (lasting 7 one two_to_54 ∷ lasting 8 instant two_to_54 ∷ [])).1 ≡ 7 ∷ []
   -- "complete": a start and a stop; "nothing if none is complete"
-  pub incomplete-left-out : (answers Minimum (mark 7 (some one) none ∷ mark 8 none (some two) ∷ lasting 9 one two ∷ [])).1 ≡ 9 ∷ []
+  pub incomplete-left-out : (answers Minimum (mark 7 (Some one) None ∷ mark 8 None (Some two) ∷ lasting 9 one two ∷ [])).1 ≡ 9 ∷ []
   pub none-complete : answers Minimum others ≡ (idle others, [])
   -- "Internal in Passive: nothing, infinite."
   pub in-passive : stopwatch_internal (watch_of Minimum) (measures watching.Passive instant (lasting 7 one two ∷ [])) ≡ (idle (lasting 7 one two ∷ []), [])
   -- status: "the mean of complete durations (summed in order from 0, then divided by their number, each operation rounded once), or none if none is complete"
-  pub mean-of-two : mean (durations (lasting 7 one two ∷ mark 8 (some one) none ∷ lasting 9 two four ∷ [])) ≡ some (at 0x3FF8_0000_0000_0000)
-  pub mean-rounded : mean (durations (lasting 7 instant one ∷ lasting 8 one one ∷ lasting 9 two two ∷ [])) ≡ some (at 0x3FD5_5555_5555_5555)
-  pub mean-in-order : mean (durations (lasting 7 instant one ∷ lasting 8 instant one ∷ lasting 9 instant one ∷ lasting 10 instant two_to_54 ∷ [])) ≡ some (at 0x4330_0000_0000_0001)
-  pub mean-in-other-order : mean (durations (lasting 7 instant two_to_54 ∷ lasting 8 instant one ∷ lasting 9 instant one ∷ lasting 10 instant one ∷ [])) ≡ some (at 0x4330_0000_0000_0000)
-  pub mean-none : mean (durations others) ≡ none
+  pub mean-of-two : mean (durations (lasting 7 one two ∷ mark 8 (Some one) None ∷ lasting 9 two four ∷ [])) ≡ Some (at 0x3FF8_0000_0000_0000)
+  pub mean-rounded : mean (durations (lasting 7 instant one ∷ lasting 8 one one ∷ lasting 9 two two ∷ [])) ≡ Some (at 0x3FD5_5555_5555_5555)
+  pub mean-in-order : mean (durations (lasting 7 instant one ∷ lasting 8 instant one ∷ lasting 9 instant one ∷ lasting 10 instant two_to_54 ∷ [])) ≡ Some (at 0x4330_0000_0000_0001)
+  pub mean-in-other-order : mean (durations (lasting 7 instant two_to_54 ∷ lasting 8 instant one ∷ lasting 9 instant one ∷ lasting 10 instant one ∷ [])) ≡ Some (at 0x4330_0000_0000_0000)
+  pub mean-none : mean (durations others) ≡ None
 
 pub stopwatches : Stopwatches
 unfolding stopwatch_external stopwatch_internal sub add div of_int lt of_bits

@@ -1,6 +1,5 @@
 -- The Coupled and the step of 01, pinned: each case is computed, and an edit of its sentence breaks it. Assumes nothing.
-use Rattle.std.specs.Prelude.{ℕ, ◌≡◌, refl, List, [], ◌∷◌, ◌++◌, replicate, Float}
-use Rattle.std.proofs.Math.Option.{none, some}
+use Rattle.std.specs.Prelude.{ℕ, ◌≡◌, refl, List, [], ◌∷◌, ◌++◌, replicate, Float, None, Some}
 use Rattle.std.specs.Float.Ieee.{add, sub, lt, le, eq, fits, of_bits, to_bits}
 use Rattle.times.specs.Time.{instant, never, latest, is_time, is_timer, least_of}
 use Rattle.rules.specs.declared.Refusal.TheVariants.{InvalidMessage, InvalidModelState, NoMessageRoom, NoServiceTime, ClockOverflow, Idle}
@@ -347,21 +346,21 @@ pub record Steps : Type 0 where
   pub places-kept : (step_of (in_hall [] quiet (job 2 1 21 ∷ job 1 1 22 ∷ []) three)).place ≡ 2
   -- the clock that a stopwatch marks is the step's before the advance; for what was parked too, since no time passes while anything is parked (02, A3)
   pub watches : step_of (simulation (table_of (row 1 (a_stopwatch Minimum) ∷ []) [] []) (watch [] ∷ []) (job 1 2 21 ∷ []) three)
-      ≡ record { end = Done; states = watch (record { name = 21; start = none; stop = some three } ∷ []) ∷ []; active = []; clock = three; place = 0; log = came three 0 2 21 Marked ∷ waited instant ∷ [] }
+      ≡ record { end = Done; states = watch (record { name = 21; start = None; stop = Some three } ∷ []) ∷ []; active = []; clock = three; place = 0; log = came three 0 2 21 Marked ∷ waited instant ∷ [] }
   pub watches-parked : step_of (simulation (table_of due_rows [] []) (of_coupled (parked_at 5 1 21 ∷ []) ∷ passive [] never ∷ batch (22 ∷ []) two ∷ watch [] ∷ []) [] three)
       ≡ record {
         end = Done;
-        states = of_coupled [] ∷ passive [] never ∷ batch (22 ∷ []) two ∷ watch (record { name = 21; start = some three; stop = none } ∷ []) ∷ [];
+        states = of_coupled [] ∷ passive [] never ∷ batch (22 ∷ []) two ∷ watch (record { name = 21; start = Some three; stop = None } ∷ []) ∷ [];
         active = [];
         clock = three;
         place = 0;
         log = waited instant ∷ came three 3 1 21 Marked ∷ went three 0 [] ∷ [];
       }
   -- a stopwatch that is asked puts out in that step
-  pub fetches : step_of (simulation (table_of (row 1 (a_stopwatch Minimum) ∷ []) (link 1 4 9 9 ∷ []) []) (watch (record { name = 21; start = some one; stop = some two } ∷ []) ∷ []) (job 1 3 0 ∷ []) three)
+  pub fetches : step_of (simulation (table_of (row 1 (a_stopwatch Minimum) ∷ []) (link 1 4 9 9 ∷ []) []) (watch (record { name = 21; start = Some one; stop = Some two } ∷ []) ∷ []) (job 1 3 0 ∷ []) three)
       ≡ record {
         end = Done;
-        states = watch (record { name = 21; start = some one; stop = some two } ∷ []) ∷ [];
+        states = watch (record { name = 21; start = Some one; stop = Some two } ∷ []) ∷ [];
         active = message 1 4 9 9 three 21 ∷ [];
         clock = three;
         place = 0;

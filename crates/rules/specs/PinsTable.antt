@@ -1,6 +1,5 @@
 -- "Sizes and numbers", refusals 1 to 3 and docs/LAYOUT.md, pinned: each case is computed, and an edit of its sentence breaks it. Assumes nothing.
-use Rattle.std.specs.Prelude.{ℕ, zero, suc, ◌+◌, ◌-◌, ◌^◌, ◌≡◌, refl, Bool, true, false, List, [], ◌∷◌, ◌++◌, map, replicate}
-use Rattle.std.proofs.Math.Option.{none, some}
+use Rattle.std.specs.Prelude.{ℕ, zero, suc, ◌+◌, ◌-◌, ◌^◌, ◌≡◌, refl, Bool, true, false, List, [], ◌∷◌, ◌++◌, map, replicate, None, Some}
 use Rattle.std.specs.Float.Ieee.{le, fits, of_bits, to_bits}
 use Rattle.times.specs.Time.{never, is_time}
 use Rattle.rules.specs.declared.Metric.TheVariants.{Minimum, Maximum}
@@ -68,7 +67,7 @@ pub record Sizes : Type 0 where
   pub connectors-257 : seen_of (posted [] (replicate 257 (link 1 1 1 1)) []) ≡ (1, 0)
   pub couplings-256 : seen_of (posted family [] (replicate 256 (internal_coupling 1 2 1 2 1))) ≡ ok
   pub couplings-257 : seen_of (posted family [] (replicate 257 (internal_coupling 1 2 1 2 1))) ≡ (1, 0)
-  pub short-row-counts : seen_of (record { rows = map (λ k. some (row k coupled)) (from 1 64) ++ none ∷ []; connectors = []; couplings = [] }) ≡ (1, 0)
+  pub short-row-counts : seen_of (record { rows = map (λ k. Some (row k coupled)) (from 1 64) ++ None ∷ []; connectors = []; couplings = [] }) ≡ (1, 0)
   -- the empty table passes
   pub empty : of_rows [] ≡ ok
 
@@ -259,12 +258,12 @@ pub record Order : Type 0 where
   -- "Table intake checks 1, then 2 in row order, then 3": connectors before couplings, each in row order
   pub one-first : seen_of (posted (map (λ k. row 1 coupled) (from 1 65)) (link wide 1 1 1 ∷ []) []) ≡ (1, 0)
   pub two-first : seen_of (posted (row 1 coupled ∷ row 1 coupled ∷ []) (link wide 1 1 1 ∷ []) (external_output 9 1 1 1 ∷ [])) ≡ (2, 1)
-  pub first-of-two : seen_of (record { rows = some (row 1 coupled) ∷ some (row 1 coupled) ∷ none ∷ []; connectors = []; couplings = [] }) ≡ (2, 1)
-  pub broken-row-first : seen_of (record { rows = some (row 1 coupled) ∷ none ∷ some (row 1 coupled) ∷ []; connectors = []; couplings = [] }) ≡ (2, 1)
+  pub first-of-two : seen_of (record { rows = Some (row 1 coupled) ∷ Some (row 1 coupled) ∷ None ∷ []; connectors = []; couplings = [] }) ≡ (2, 1)
+  pub broken-row-first : seen_of (record { rows = Some (row 1 coupled) ∷ None ∷ Some (row 1 coupled) ∷ []; connectors = []; couplings = [] }) ≡ (2, 1)
   pub connectors-first : intake (posted family (link 1 1 1 1 ∷ link wide 1 1 1 ∷ []) (external_output 9 1 1 1 ∷ [])) ≡ bad_connector 1
-  pub broken-connector : seen_of (record { rows = []; connectors = some (link 1 1 1 1) ∷ none ∷ []; couplings = [] }) ≡ (3, 1)
+  pub broken-connector : seen_of (record { rows = []; connectors = Some (link 1 1 1 1) ∷ None ∷ []; couplings = [] }) ≡ (3, 1)
   pub couplings-last : intake (posted family (link 1 1 1 1 ∷ []) (external_output 1 1 1 1 ∷ external_output 9 1 1 1 ∷ external_output 8 1 1 1 ∷ [])) ≡ bad_coupling 1
-  pub broken-coupling : seen_of (record { rows = map some family; connectors = []; couplings = some (external_output 1 1 1 1) ∷ none ∷ [] }) ≡ (3, 1)
+  pub broken-coupling : seen_of (record { rows = map Some family; connectors = []; couplings = Some (external_output 1 1 1 1) ∷ None ∷ [] }) ≡ (3, 1)
   -- a table that passes is the one that was handed in
   pub whole-table : intake (posted family (link 3 2 1 1 ∷ []) (external_input 1 1 2 1 ∷ [])) ≡ passed (record { rows = family; connectors = link 3 2 1 1 ∷ []; couplings = external_input 1 1 2 1 ∷ [] })
 
@@ -291,51 +290,51 @@ batch_time = 0x4024_0000_0000_0000
 
 pub record Words : Type 0 where
   -- each kind reads its own cells
-  pub processor-row : model_row (words 1 2 (0 ∷ 1 ∷ 0 ∷ 0 ∷ 2 ∷ 8 ∷ 0 ∷ [])) ≡ some (row 7 (a_processor 8))
-  pub batcher-row : model_row (words 2 0 (0 ∷ 1 ∷ 0 ∷ 0 ∷ 2 ∷ 3 ∷ batch_time ∷ [])) ≡ some (row 7 (a_batcher 3 ten))
-  pub stopwatch-row : model_row (words 3 4 (0 ∷ 1 ∷ 2 ∷ 3 ∷ 4 ∷ 1 ∷ 0 ∷ [])) ≡ some (row 7 (a_stopwatch Maximum))
-  pub stopwatch-minimum : model_row (words 3 4 (0 ∷ 1 ∷ 2 ∷ 3 ∷ 4 ∷ 0 ∷ 0 ∷ [])) ≡ some (row 7 (a_stopwatch Minimum))
-  pub coupled-row : model_row (words 4 0 (0 ∷ 0 ∷ 0 ∷ 0 ∷ 0 ∷ 0 ∷ 0 ∷ [])) ≡ some (row 7 coupled)
+  pub processor-row : model_row (words 1 2 (0 ∷ 1 ∷ 0 ∷ 0 ∷ 2 ∷ 8 ∷ 0 ∷ [])) ≡ Some (row 7 (a_processor 8))
+  pub batcher-row : model_row (words 2 0 (0 ∷ 1 ∷ 0 ∷ 0 ∷ 2 ∷ 3 ∷ batch_time ∷ [])) ≡ Some (row 7 (a_batcher 3 ten))
+  pub stopwatch-row : model_row (words 3 4 (0 ∷ 1 ∷ 2 ∷ 3 ∷ 4 ∷ 1 ∷ 0 ∷ [])) ≡ Some (row 7 (a_stopwatch Maximum))
+  pub stopwatch-minimum : model_row (words 3 4 (0 ∷ 1 ∷ 2 ∷ 3 ∷ 4 ∷ 0 ∷ 0 ∷ [])) ≡ Some (row 7 (a_stopwatch Minimum))
+  pub coupled-row : model_row (words 4 0 (0 ∷ 0 ∷ 0 ∷ 0 ∷ 0 ∷ 0 ∷ 0 ∷ [])) ≡ Some (row 7 coupled)
   -- "its kind is none of the four, its metric neither of the two"
-  pub kind_0 : model_row (words 0 0 (0 ∷ 0 ∷ 0 ∷ 0 ∷ 0 ∷ 0 ∷ 0 ∷ [])) ≡ none
-  pub kind-5 : model_row (words 5 0 (0 ∷ 0 ∷ 0 ∷ 0 ∷ 0 ∷ 0 ∷ 0 ∷ [])) ≡ none
-  pub metric-2 : model_row (words 3 4 (0 ∷ 1 ∷ 2 ∷ 3 ∷ 4 ∷ 2 ∷ 0 ∷ [])) ≡ none
+  pub kind_0 : model_row (words 0 0 (0 ∷ 0 ∷ 0 ∷ 0 ∷ 0 ∷ 0 ∷ 0 ∷ [])) ≡ None
+  pub kind-5 : model_row (words 5 0 (0 ∷ 0 ∷ 0 ∷ 0 ∷ 0 ∷ 0 ∷ 0 ∷ [])) ≡ None
+  pub metric-2 : model_row (words 3 4 (0 ∷ 1 ∷ 2 ∷ 3 ∷ 4 ∷ 2 ∷ 0 ∷ [])) ≡ None
   -- omitted and given: "Rows that omit `queue_capacity` now get 32", "Metric defaults to Minimum", a parent only where it is given; an omitted field is not looked at
-  pub capacity-omitted : model_row (words 1 0 (0 ∷ 1 ∷ 0 ∷ 0 ∷ 2 ∷ 8 ∷ 0 ∷ [])) ≡ some (row 7 (a_processor 32))
-  pub metric-omitted : model_row (words 3 0 (0 ∷ 1 ∷ 2 ∷ 3 ∷ 4 ∷ 2 ∷ 0 ∷ [])) ≡ some (row 7 (a_stopwatch Minimum))
-  pub parent-given : model_row (words 4 1 (5 ∷ 0 ∷ 0 ∷ 0 ∷ 0 ∷ 0 ∷ 0 ∷ [])) ≡ some (within 5 7 coupled)
-  pub parent-omitted : model_row (words 4 6 (2 ^ 16 ∷ 0 ∷ 0 ∷ 0 ∷ 0 ∷ 2 ^ 63 ∷ 2 ^ 63 ∷ [])) ≡ some (row 7 coupled)
-  pub all-given : model_row (words 1 7 (5 ∷ 1 ∷ 0 ∷ 0 ∷ 2 ∷ 8 ∷ 0 ∷ [])) ≡ some (within 5 7 (a_processor 8))
-  pub metric-among-all : model_row (words 3 7 (5 ∷ 1 ∷ 2 ∷ 3 ∷ 4 ∷ 1 ∷ 0 ∷ [])) ≡ some (within 5 7 (a_stopwatch Maximum))
-  pub metric-with-capacity : model_row (words 3 6 (5 ∷ 1 ∷ 2 ∷ 3 ∷ 4 ∷ 1 ∷ 0 ∷ [])) ≡ some (row 7 (a_stopwatch Maximum))
-  pub all-but-metric : model_row (words 3 3 (5 ∷ 1 ∷ 2 ∷ 3 ∷ 4 ∷ 1 ∷ 0 ∷ [])) ≡ some (within 5 7 (a_stopwatch Minimum))
-  pub all-but-capacity : model_row (words 1 5 (5 ∷ 1 ∷ 0 ∷ 0 ∷ 2 ∷ 8 ∷ 0 ∷ [])) ≡ some (within 5 7 (a_processor 32))
-  pub given-8 : model_row (words 4 8 (0 ∷ 0 ∷ 0 ∷ 0 ∷ 0 ∷ 0 ∷ 0 ∷ [])) ≡ none
+  pub capacity-omitted : model_row (words 1 0 (0 ∷ 1 ∷ 0 ∷ 0 ∷ 2 ∷ 8 ∷ 0 ∷ [])) ≡ Some (row 7 (a_processor 32))
+  pub metric-omitted : model_row (words 3 0 (0 ∷ 1 ∷ 2 ∷ 3 ∷ 4 ∷ 2 ∷ 0 ∷ [])) ≡ Some (row 7 (a_stopwatch Minimum))
+  pub parent-given : model_row (words 4 1 (5 ∷ 0 ∷ 0 ∷ 0 ∷ 0 ∷ 0 ∷ 0 ∷ [])) ≡ Some (within 5 7 coupled)
+  pub parent-omitted : model_row (words 4 6 (2 ^ 16 ∷ 0 ∷ 0 ∷ 0 ∷ 0 ∷ 2 ^ 63 ∷ 2 ^ 63 ∷ [])) ≡ Some (row 7 coupled)
+  pub all-given : model_row (words 1 7 (5 ∷ 1 ∷ 0 ∷ 0 ∷ 2 ∷ 8 ∷ 0 ∷ [])) ≡ Some (within 5 7 (a_processor 8))
+  pub metric-among-all : model_row (words 3 7 (5 ∷ 1 ∷ 2 ∷ 3 ∷ 4 ∷ 1 ∷ 0 ∷ [])) ≡ Some (within 5 7 (a_stopwatch Maximum))
+  pub metric-with-capacity : model_row (words 3 6 (5 ∷ 1 ∷ 2 ∷ 3 ∷ 4 ∷ 1 ∷ 0 ∷ [])) ≡ Some (row 7 (a_stopwatch Maximum))
+  pub all-but-metric : model_row (words 3 3 (5 ∷ 1 ∷ 2 ∷ 3 ∷ 4 ∷ 1 ∷ 0 ∷ [])) ≡ Some (within 5 7 (a_stopwatch Minimum))
+  pub all-but-capacity : model_row (words 1 5 (5 ∷ 1 ∷ 0 ∷ 0 ∷ 2 ∷ 8 ∷ 0 ∷ [])) ≡ Some (within 5 7 (a_processor 32))
+  pub given-8 : model_row (words 4 8 (0 ∷ 0 ∷ 0 ∷ 0 ∷ 0 ∷ 0 ∷ 0 ∷ [])) ≡ None
   -- every port cell keeps its width, used by the kind or not
-  pub unused-processor-2 : model_row (words 1 2 (0 ∷ 1 ∷ wide ∷ 0 ∷ 2 ∷ 8 ∷ 0 ∷ [])) ≡ none
-  pub unused-processor-3 : model_row (words 1 2 (0 ∷ 1 ∷ 0 ∷ wide ∷ 2 ∷ 8 ∷ 0 ∷ [])) ≡ none
-  pub unused-batcher-2 : model_row (words 2 0 (0 ∷ 1 ∷ wide ∷ 0 ∷ 2 ∷ 3 ∷ batch_time ∷ [])) ≡ none
-  pub unused-batcher-3 : model_row (words 2 0 (0 ∷ 1 ∷ 0 ∷ wide ∷ 2 ∷ 3 ∷ batch_time ∷ [])) ≡ none
-  pub unused-coupled-1 : model_row (words 4 0 (0 ∷ wide ∷ 0 ∷ 0 ∷ 0 ∷ 0 ∷ 0 ∷ [])) ≡ none
-  pub unused-coupled-2 : model_row (words 4 0 (0 ∷ 0 ∷ wide ∷ 0 ∷ 0 ∷ 0 ∷ 0 ∷ [])) ≡ none
-  pub unused-coupled-3 : model_row (words 4 0 (0 ∷ 0 ∷ 0 ∷ wide ∷ 0 ∷ 0 ∷ 0 ∷ [])) ≡ none
-  pub unused-coupled-out : model_row (words 4 0 (0 ∷ 0 ∷ 0 ∷ 0 ∷ wide ∷ 0 ∷ 0 ∷ [])) ≡ none
-  pub unused-last : model_row (words 4 0 (0 ∷ last ∷ last ∷ last ∷ last ∷ 0 ∷ 0 ∷ [])) ≡ some (row 7 coupled)
+  pub unused-processor-2 : model_row (words 1 2 (0 ∷ 1 ∷ wide ∷ 0 ∷ 2 ∷ 8 ∷ 0 ∷ [])) ≡ None
+  pub unused-processor-3 : model_row (words 1 2 (0 ∷ 1 ∷ 0 ∷ wide ∷ 2 ∷ 8 ∷ 0 ∷ [])) ≡ None
+  pub unused-batcher-2 : model_row (words 2 0 (0 ∷ 1 ∷ wide ∷ 0 ∷ 2 ∷ 3 ∷ batch_time ∷ [])) ≡ None
+  pub unused-batcher-3 : model_row (words 2 0 (0 ∷ 1 ∷ 0 ∷ wide ∷ 2 ∷ 3 ∷ batch_time ∷ [])) ≡ None
+  pub unused-coupled-1 : model_row (words 4 0 (0 ∷ wide ∷ 0 ∷ 0 ∷ 0 ∷ 0 ∷ 0 ∷ [])) ≡ None
+  pub unused-coupled-2 : model_row (words 4 0 (0 ∷ 0 ∷ wide ∷ 0 ∷ 0 ∷ 0 ∷ 0 ∷ [])) ≡ None
+  pub unused-coupled-3 : model_row (words 4 0 (0 ∷ 0 ∷ 0 ∷ wide ∷ 0 ∷ 0 ∷ 0 ∷ [])) ≡ None
+  pub unused-coupled-out : model_row (words 4 0 (0 ∷ 0 ∷ 0 ∷ 0 ∷ wide ∷ 0 ∷ 0 ∷ [])) ≡ None
+  pub unused-last : model_row (words 4 0 (0 ∷ last ∷ last ∷ last ∷ last ∷ 0 ∷ 0 ∷ [])) ≡ Some (row 7 coupled)
   -- "a row cut short"
-  pub model-short : model_row (words 4 0 (0 ∷ 0 ∷ 0 ∷ 0 ∷ 0 ∷ 0 ∷ [])) ≡ none
-  pub connector-whole : connector_row (1 ∷ 2 ∷ 3 ∷ 4 ∷ []) ≡ some (link 1 2 3 4)
-  pub connector-short : connector_row (1 ∷ 2 ∷ 3 ∷ []) ≡ none
-  pub input-row : coupling_row (7 ∷ 1 ∷ 0 ∷ 3 ∷ 4 ∷ 5 ∷ []) ≡ some (external_input 7 3 4 5)
-  pub output_row : coupling_row (7 ∷ 2 ∷ 6 ∷ 3 ∷ 0 ∷ 5 ∷ []) ≡ some (external_output 7 6 3 5)
-  pub internal-row : coupling_row (7 ∷ 3 ∷ 6 ∷ 8 ∷ 4 ∷ 5 ∷ []) ≡ some (internal_coupling 7 6 8 4 5)
-  pub coupling-kind-0 : coupling_row (1 ∷ 0 ∷ 6 ∷ 3 ∷ 4 ∷ 5 ∷ []) ≡ none
-  pub coupling-kind-4 : coupling_row (1 ∷ 4 ∷ 6 ∷ 3 ∷ 4 ∷ 5 ∷ []) ≡ none
-  pub coupling-short : coupling_row (1 ∷ 3 ∷ 6 ∷ 3 ∷ 4 ∷ []) ≡ none
-  pub input-unused : coupling_row (1 ∷ 1 ∷ wide ∷ 3 ∷ 4 ∷ 5 ∷ []) ≡ none
-  pub output-unused : coupling_row (1 ∷ 2 ∷ 6 ∷ 3 ∷ wide ∷ 5 ∷ []) ≡ none
+  pub model-short : model_row (words 4 0 (0 ∷ 0 ∷ 0 ∷ 0 ∷ 0 ∷ 0 ∷ [])) ≡ None
+  pub connector-whole : connector_row (1 ∷ 2 ∷ 3 ∷ 4 ∷ []) ≡ Some (link 1 2 3 4)
+  pub connector-short : connector_row (1 ∷ 2 ∷ 3 ∷ []) ≡ None
+  pub input-row : coupling_row (7 ∷ 1 ∷ 0 ∷ 3 ∷ 4 ∷ 5 ∷ []) ≡ Some (external_input 7 3 4 5)
+  pub output_row : coupling_row (7 ∷ 2 ∷ 6 ∷ 3 ∷ 0 ∷ 5 ∷ []) ≡ Some (external_output 7 6 3 5)
+  pub internal-row : coupling_row (7 ∷ 3 ∷ 6 ∷ 8 ∷ 4 ∷ 5 ∷ []) ≡ Some (internal_coupling 7 6 8 4 5)
+  pub coupling-kind-0 : coupling_row (1 ∷ 0 ∷ 6 ∷ 3 ∷ 4 ∷ 5 ∷ []) ≡ None
+  pub coupling-kind-4 : coupling_row (1 ∷ 4 ∷ 6 ∷ 3 ∷ 4 ∷ 5 ∷ []) ≡ None
+  pub coupling-short : coupling_row (1 ∷ 3 ∷ 6 ∷ 3 ∷ 4 ∷ []) ≡ None
+  pub input-unused : coupling_row (1 ∷ 1 ∷ wide ∷ 3 ∷ 4 ∷ 5 ∷ []) ≡ None
+  pub output-unused : coupling_row (1 ∷ 2 ∷ 6 ∷ 3 ∷ wide ∷ 5 ∷ []) ≡ None
   -- rows are cut one after the other, and one that is cut short counts and breaks
   pub two-rows : lent [] (1 ∷ 2 ∷ 3 ∷ 4 ∷ 5 ∷ 6 ∷ 7 ∷ 8 ∷ []) [] ≡ posted [] (link 1 2 3 4 ∷ link 5 6 7 8 ∷ []) []
-  pub one_word : lent (7 ∷ []) (1 ∷ 2 ∷ 3 ∷ 4 ∷ 5 ∷ []) (1 ∷ []) ≡ record { rows = none ∷ []; connectors = some (link 1 2 3 4) ∷ none ∷ []; couplings = none ∷ [] }
+  pub one_word : lent (7 ∷ []) (1 ∷ 2 ∷ 3 ∷ 4 ∷ 5 ∷ []) (1 ∷ []) ≡ record { rows = None ∷ []; connectors = Some (link 1 2 3 4) ∷ None ∷ []; couplings = None ∷ [] }
   pub short-is-2 : seen_of (lent (words 4 0 (replicate 7 0) ++ 1 ∷ []) [] []) ≡ (2, 1)
   pub short-is-3 : seen_of (lent [] (replicate 5 1) []) ≡ (3, 1)
   pub short-coupling-is-3 : seen_of (lent (words 4 0 (replicate 7 0)) [] (7 ∷ 3 ∷ 1 ∷ 1 ∷ 1 ∷ [])) ≡ (3, 0)

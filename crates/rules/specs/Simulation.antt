@@ -1,6 +1,5 @@
 -- What a simulation is made of: the models' states, the active messages, the clock, the place in the service list. Definitions only. Assumes nothing.
-use Rattle.std.specs.Prelude.{ℕ, List, [], map, get_or, Float}
-use Rattle.std.proofs.Math.Option.{Option}
+use Rattle.std.specs.Prelude.{ℕ, List, [], map, get_or, Float, Option}
 use Rattle.times.specs.Time.{instant, never}
 use Rattle.rules.specs.declared.ProcessorPhase.{ProcessorPhase}
 use Rattle.rules.specs.declared.ProcessorPhase.TheVariants as working

@@ -1,6 +1,5 @@
 -- The table: model rows, connectors, couplings, and looking things up in it. Definitions only. Assumes nothing.
-use Rattle.std.specs.Prelude.{ℕ, Bool, true, false, ◌&&◌, List, length, get_or, eqb, if◌then◌else◌}
-use Rattle.std.proofs.Math.Option.{Option, none, some}
+use Rattle.std.specs.Prelude.{ℕ, Bool, true, false, ◌&&◌, List, length, get_or, eqb, if◌then◌else◌, Option, None, Some}
 use Rattle.rules.specs.declared.Processor.{Processor}
 use Rattle.rules.specs.declared.Batcher.{Batcher}
 use Rattle.rules.specs.declared.Stopwatch.{Stopwatch}
@@ -38,7 +37,7 @@ pub record Table : Type 0 where
 
 -- ---- looking things up. Past the last row stands a Coupled without parent, in no list below.
 abbrev pub no_row : Row
-no_row = record { id = 0; parent = none; kind = coupled }
+no_row = record { id = 0; parent = None; kind = coupled }
 
 abbrev pub row_at : Table → ℕ → Row
 row_at t i = get_or t.rows i no_row
@@ -56,12 +55,12 @@ is_coupled (stopwatch w) = false
 is_coupled coupled = true
 
 abbrev pub is_parent : ℕ → Option ℕ → Bool
-is_parent p none = false
-is_parent p (some q) = eqb q p
+is_parent p None = false
+is_parent p (Some q) = eqb q p
 
 abbrev pub is_parentless : Option ℕ → Bool
-is_parentless none = true
-is_parentless (some q) = false
+is_parentless None = true
+is_parentless (Some q) = false
 
 -- the parentless models, in row order, by their place among the rows
 abbrev pub parentless : Table → List ℕ
@@ -82,22 +81,22 @@ pub record Target : Type 0 where
 
 -- "every matching external input coupling": of this owner, at this port
 abbrev pub input_of : ℕ → ℕ → Coupling → Option Target
-input_of owner port (external_input o sp target tp) = if eqb o owner && eqb sp port then some (record { target = target; port = tp }) else none
-input_of owner port (external_output o s sp tp) = none
-input_of owner port (internal_coupling o s sp target tp) = none
+input_of owner port (external_input o sp target tp) = if eqb o owner && eqb sp port then Some (record { target = target; port = tp }) else None
+input_of owner port (external_output o s sp tp) = None
+input_of owner port (internal_coupling o s sp target tp) = None
 
 -- an external output coupling of this owner, from this component's port
 abbrev pub output_of : ℕ → ℕ → ℕ → Coupling → Option ℕ
-output_of owner source port (external_input o sp target tp) = none
-output_of owner source port (external_output o s sp tp) = if eqb o owner && eqb s source && eqb sp port then some tp else none
-output_of owner source port (internal_coupling o s sp target tp) = none
+output_of owner source port (external_input o sp target tp) = None
+output_of owner source port (external_output o s sp tp) = if eqb o owner && eqb s source && eqb sp port then Some tp else None
+output_of owner source port (internal_coupling o s sp target tp) = None
 
 -- an internal coupling of this owner, from this component's port
 abbrev pub internal_of : ℕ → ℕ → ℕ → Coupling → Option Target
-internal_of owner source port (external_input o sp target tp) = none
-internal_of owner source port (external_output o s sp tp) = none
+internal_of owner source port (external_input o sp target tp) = None
+internal_of owner source port (external_output o s sp tp) = None
 internal_of owner source port (internal_coupling o s sp target tp) =
-    if eqb o owner && eqb s source && eqb sp port then some (record { target = target; port = tp }) else none
+    if eqb o owner && eqb s source && eqb sp port then Some (record { target = target; port = tp }) else None
 
 abbrev pub inputs : Table → ℕ → ℕ → List Target
 inputs t owner port = chosen (input_of owner port) t.couplings

@@ -1,7 +1,6 @@
 -- What refusal 20 asks of a simulation, and of a model's state, row and clock, sentence by sentence. Definitions only. Assumes nothing.
 -- "phases are named ones" and "is cut short" are of the layout: here a phase is a named one, and a list has no end to be cut from.
-use Rattle.std.specs.Prelude.{ℕ, Bool, true, false, not, ◌&&◌, List, [], ◌∷◌, map, length, leb, eqb, Float, if◌then◌else◌}
-use Rattle.std.proofs.Math.Option.{Option, none, some}
+use Rattle.std.specs.Prelude.{ℕ, Bool, true, false, not, ◌&&◌, List, [], ◌∷◌, map, length, leb, eqb, Float, if◌then◌else◌, Option, None, Some}
 use Rattle.times.specs.Time.{is_time, is_timer}
 use Rattle.rules.specs.declared.Refusal.TheVariants.{BadState}
 use Rattle.rules.specs.declared.ProcessorPhase.{ProcessorPhase}
@@ -34,8 +33,8 @@ batcher_rules s = is_timer s.timer ∷ leb (length s.jobs) most_jobs ∷ every i
 
 -- ---- a Stopwatch's: "stopwatch marks are times", "a stopwatch's names differ"
 abbrev pub mark_fits : Option Float → Bool
-mark_fits none = true
-mark_fits (some x) = is_time x
+mark_fits None = true
+mark_fits (Some x) = is_time x
 
 abbrev pub marks_rules : Marks → List Bool
 marks_rules j = is_content j.name ∷ mark_fits j.start ∷ mark_fits j.stop ∷ []

@@ -1,7 +1,6 @@
 -- In a table that passes intake, the rules' lists are the places that a search finds, in order. Assumes nothing.
-use Rattle.std.specs.Prelude.{ℕ, zero, suc, ◌+◌, ◌-◌, ◌≤◌, ◌<◌, ◌≡◌, refl, Bool, true, false, ◌&&◌, List, [], ◌∷◌, map, length, eqb, if◌then◌else◌, None, Some}
+use Rattle.std.specs.Prelude.{ℕ, zero, suc, ◌+◌, ◌-◌, ◌≤◌, ◌<◌, ◌≡◌, refl, Bool, true, false, ◌&&◌, List, [], ◌∷◌, map, length, eqb, if◌then◌else◌, None, Some, Option}
 use Rattle.std.proofs.Common.{ap, ◌∙◌, arith, add-one}
-use Rattle.std.proofs.Math.Option.{Option, none, some}
 use Rattle.rules.specs.Base.{Outcome, done, ◌>>=◌, each, those, chosen, hold, from}
 use Rattle.rules.specs.Sizes.{is_id}
 use Rattle.rules.specs.Table.{Table, Target, Connector, Coupling, input_of, output_of, internal_of, connected, inputs, outputs, internals, components, parentless, id_at, is_parent, is_parentless}
@@ -56,34 +55,34 @@ those-map test f (k ∷ ks) = by (test (f k)) (those-map test f ks)
 
 -- what is chosen is `read`, where something is
 abbrev Reads : {B : Type 0} → Option B → B → Type 0
-Reads o read = o ≡ (if is_some o then some read else none)
+Reads o read = o ≡ (if is_some o then Some read else None)
 
 chosen-read : {B : Type 0} (g : ℕ → Option B) (read : ℕ → B) → ((k : ℕ) → Reads (g k) (read k)) → (ks : List ℕ) → chosen g ks ≡ map read (those (λ k. is_some (g k)) ks)
 chosen-read g read reads [] = refl
 chosen-read g read reads (k ∷ ks) = by (g k) (reads k) (chosen-read g read reads ks)
   where
-    by : (o : Option _) → Reads o (read k) → chosen g ks ≡ map read (those (λ k. is_some (g k)) ks) → elim o [ none ↦ chosen g ks | some y ↦ y ∷ chosen g ks ] ≡ map read (if is_some o then k ∷ those (λ k. is_some (g k)) ks else those (λ k. is_some (g k)) ks)
-    by none h later = later
-    by (some y) h later = let same : y ≡ read k = cc in λ i. same i ∷ later i
+    by : (o : Option _) → Reads o (read k) → chosen g ks ≡ map read (those (λ k. is_some (g k)) ks) → elim o [ None ↦ chosen g ks | Some y ↦ y ∷ chosen g ks ] ≡ map read (if is_some o then k ∷ those (λ k. is_some (g k)) ks else those (λ k. is_some (g k)) ks)
+    by None h later = later
+    by (Some y) h later = let same : y ≡ read k = cc in λ i. same i ∷ later i
 
 -- what is chosen of each thing is what is chosen at its place
 chosen-places : {A B : Type 0} (choose : A → Option B) (f : ℕ → A) (g : ℕ → Option B) (k n : ℕ) → ((j : ℕ) → j < k + n → choose (f j) ≡ g j) → chosen choose (map f (from k n)) ≡ chosen g (from k n)
 chosen-places choose f g k zero same = refl
 chosen-places choose f g k (suc n) same =
-    λ i. let rest = chosen-places choose f g (suc k) n (λ j below. same j (omega arith)) i in elim (same k (omega arith) i) [ none ↦ rest | some y ↦ y ∷ rest ]
+    λ i. let rest = chosen-places choose f g (suc k) n (λ j below. same j (omega arith)) i in elim (same k (omega arith) i) [ None ↦ rest | Some y ↦ y ∷ rest ]
 
 -- ---- couplings
 -- what is chosen of a coupling is what is chosen of its row
-chosen-row : {B : Type 0} (choose : Coupling → Option B) (row : List ℕ) (c : Coupling) → coupling_row row ≡ some c → choose c ≡ chosen_of choose (coupling_in row)
+chosen-row : {B : Type 0} (choose : Coupling → Option B) (row : List ℕ) (c : Coupling) → coupling_row row ≡ Some c → choose c ≡ chosen_of choose (coupling_in row)
 chosen-row choose row c h = by (coupling_in row) h
   where
-    at : (t : Bool) (d : Coupling) → (if t then some d else none) ≡ some c → choose c ≡ choose d
+    at : (t : Bool) (d : Coupling) → (if t then Some d else None) ≡ Some c → choose c ≡ choose d
     at true d h = let same : c ≡ d = cc in ap choose same
     at false d h = absurd (no-some h)
 
-    by : (o : Option (Coupling × ℕ)) → whole_coupling row o ≡ some c → choose c ≡ chosen_of choose o
-    by none h = absurd (no-some h)
-    by (some (d, unused)) h = at (hold (eqb (length row) coupling_width ∷ is_id unused ∷ [])) d h
+    by : (o : Option (Coupling × ℕ)) → whole_coupling row o ≡ Some c → choose c ≡ chosen_of choose o
+    by None h = absurd (no-some h)
+    by (Some (d, unused)) h = at (hold (eqb (length row) coupling_width ∷ is_id unused ∷ [])) d h
 
 -- where a coupling leads: the cells 4 and 5 of its row
 abbrev pub target_of : List ℕ → Target
@@ -92,7 +91,7 @@ target_of row = record { target = cell row 4; port = cell row 5 }
 abbrev pub leads_to : List ℕ → ℕ → Target
 leads_to couplings k = target_of (row_of coupling_width couplings k)
 
-reads-if : {B : Type 0} (t : Bool) (x : B) → Reads (if t then some x else none) x
+reads-if : {B : Type 0} (t : Bool) (x : B) → Reads (if t then Some x else None) x
 reads-if true x = refl
 reads-if false x = refl
 

@@ -1,6 +1,5 @@
 -- Which rows of a lent table match, by the layout and the rules' own tests, and what a search for them answers and looks at. Definitions only. Assumes nothing.
-use Rattle.std.specs.Prelude.{ℕ, zero, suc, ◌+◌, ◌-◌, ◌/◌, ◌≡◌, Bool, true, false, ◌&&◌, List, [], ◌∷◌, length, eqb, if◌then◌else◌, None, Some}
-use Rattle.std.proofs.Math.Option.{Option, none, some}
+use Rattle.std.specs.Prelude.{ℕ, zero, suc, ◌+◌, ◌-◌, ◌/◌, ◌≡◌, Bool, true, false, ◌&&◌, List, [], ◌∷◌, length, eqb, if◌then◌else◌, None, Some, Option}
 use Rattle.rules.specs.Table.{Connector, Coupling, input_of, output_of, internal_of, is_parent, is_parentless}
 use Rattle.rules.specs.Layout.{cell, model_width, connector_width, coupling_width, parent_in, coupling_in}
 use Rattle.table.specs.Readers.{row_of, id_in}
@@ -61,13 +60,13 @@ abbrev pub target_in : ℕ → ℕ → List ℕ → ℕ → Target
 target_in width at words k = record { id = cell (row_of width words k) at; port = cell (row_of width words k) (at + 1) }
 
 abbrev pub is_some : {A : Type 0} → Option A → Bool
-is_some none = false
-is_some (some x) = true
+is_some None = false
+is_some (Some x) = true
 
 -- what a rule chooses of the coupling in a row, if it is one
 abbrev pub chosen_of : {A : Type 0} → (Coupling → Option A) → Option (Coupling × ℕ) → Option A
-chosen_of choose none = none
-chosen_of choose (some (coupling, unused)) = choose coupling
+chosen_of choose None = None
+chosen_of choose (Some (coupling, unused)) = choose coupling
 
 abbrev pub coupling_read : List ℕ → ℕ → Option (Coupling × ℕ)
 coupling_read couplings k = coupling_in (row_of coupling_width couplings k)

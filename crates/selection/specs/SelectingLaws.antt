@@ -1,7 +1,6 @@
 -- The tests of the words that the searches make are the rules' own. Assumes nothing.
-use Rattle.std.specs.Prelude.{ℕ, zero, suc, ◌+◌, ◌-◌, ◌*◌, ◌/◌, ◌%◌, ◌≤◌, ◌<◌, ◌≡◌, refl, Bool, true, false, ◌&&◌, not, List, length, get_or, take, drop, eqb, if◌then◌else◌}
+use Rattle.std.specs.Prelude.{ℕ, zero, suc, ◌+◌, ◌-◌, ◌*◌, ◌/◌, ◌%◌, ◌≤◌, ◌<◌, ◌≡◌, refl, Bool, true, false, ◌&&◌, not, List, length, get_or, take, drop, eqb, if◌then◌else◌, Option, None, Some}
 use Rattle.std.proofs.Common.{sym, ap, ◌∙◌, arith, add_assoc, div-one, div-lt_iff_lt-mul, div-mul-le_self, mod-lt, mul-le-mul_right, eqb-true, drop_of_length-le, lit<}
-use Rattle.std.proofs.Math.Option.{Option, none, some}
 use Rattle.std.proofs.Math.Seq.{take-nil}
 use Rattle.rules.specs.Table.{Coupling, external_input, external_output, internal_coupling, input_of, output_of, internal_of, is_parent, is_parentless}
 use Rattle.rules.specs.Layout.{cell, model_width, coupling_width, coupling_in, is_given}
@@ -91,16 +90,16 @@ kinds x P one two three other = by (eqb x 1) (eqb x 2) (eqb x 3) refl refl refl
 -- `coupling_in`, from what is said of the kind
 abbrev pub coupling_by : List ℕ → Bool → Bool → Bool → Option (Coupling × ℕ)
 coupling_by row a b c =
-    if a then some (external_input (cell row 0) (cell row 3) (cell row 4) (cell row 5), cell row 2)
-    else if b then some (external_output (cell row 0) (cell row 2) (cell row 3) (cell row 5), cell row 4)
-    else if c then some (internal_coupling (cell row 0) (cell row 2) (cell row 3) (cell row 4) (cell row 5), 0)
-    else none
+    if a then Some (external_input (cell row 0) (cell row 3) (cell row 4) (cell row 5), cell row 2)
+    else if b then Some (external_output (cell row 0) (cell row 2) (cell row 3) (cell row 5), cell row 4)
+    else if c then Some (internal_coupling (cell row 0) (cell row 2) (cell row 3) (cell row 4) (cell row 5), 0)
+    else None
 
 and-true : (a : Bool) → a && true ≡ a
 and-true true = refl
 and-true false = refl
 
-some-if : {A : Type 0} (t : Bool) (x : A) → t ≡ is_some (if t then some x else none)
+some-if : {A : Type 0} (t : Bool) (x : A) → t ≡ is_some (if t then Some x else None)
 some-if true x = refl
 some-if false x = refl
 
@@ -122,7 +121,7 @@ module _ (words : List ℕ) (from owner : ℕ) where
           ((λ i. and-true o i && p && p) ∙ and_again o p ∙ some-if (o && p) _) no no no
 
   module _ (source port : ℕ) where
-    hit : {A : Type 0} (row : List ℕ) (x : A) → eqb (cell row 0) owner && true && eqb (cell row 2) source && eqb (cell row 3) port ≡ is_some (if eqb (cell row 0) owner && eqb (cell row 2) source && eqb (cell row 3) port then some x else none)
+    hit : {A : Type 0} (row : List ℕ) (x : A) → eqb (cell row 0) owner && true && eqb (cell row 2) source && eqb (cell row 3) port ≡ is_some (if eqb (cell row 0) owner && eqb (cell row 2) source && eqb (cell row 3) port then Some x else None)
     hit row x = (λ i. and-true (eqb (cell row 0) owner) i && eqb (cell row 2) source && eqb (cell row 3) port) ∙ some-if _ x
 
     no : (row : List ℕ) → eqb (cell row 0) owner && false && eqb (cell row 2) source && eqb (cell row 3) port ≡ false
@@ -155,14 +154,14 @@ module _ (words : List ℕ) (k : ℕ) where
   component-is : (owner : ℕ) → child_at 1 owner words k ≡ is_component words owner k
   component-is owner = rw (given_is, ← row-cell model_width words k 3 (lit< tt)) (by (is_given 1 (row_of model_width words k)))
     where
-      by : (t : Bool) → (if t then eqb (cell (row_of model_width words k) 3) owner else false) ≡ is_parent owner (if t then some (cell (row_of model_width words k) 3) else none)
+      by : (t : Bool) → (if t then eqb (cell (row_of model_width words k) 3) owner else false) ≡ is_parent owner (if t then Some (cell (row_of model_width words k) 3) else None)
       by true = refl
       by false = refl
 
   free-is : child_at 0 0 words k ≡ is_free words k
   free-is = rw (even_is (cell_of model_width words k 2 % 2) (mod-lt _ (lit< tt)), given_is) (by (is_given 1 (row_of model_width words k)))
     where
-      by : (t : Bool) → (if not t then true else false) ≡ is_parentless (if t then some (cell (row_of model_width words k) 3) else none)
+      by : (t : Bool) → (if not t then true else false) ≡ is_parentless (if t then Some (cell (row_of model_width words k) 3) else None)
       by true = refl
       by false = refl
 

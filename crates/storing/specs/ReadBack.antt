@@ -1,9 +1,8 @@
 -- What the layout makes of a simulation that 20 lets pass reads back as it; so do the words of a state that a call lays or leaves. Assumes nothing.
-use Rattle.std.specs.Prelude.{ℕ, zero, suc, ◌+◌, ◌-◌, ◌*◌, ◌/◌, ◌%◌, ◌^◌, ◌≤◌, ◌<◌, ◌≡◌, refl, get_or, take, drop, leb, ltb, eqb, Float}
+use Rattle.std.specs.Prelude.{ℕ, zero, suc, ◌+◌, ◌-◌, ◌*◌, ◌/◌, ◌%◌, ◌^◌, ◌≤◌, ◌<◌, ◌≡◌, refl, get_or, take, drop, leb, ltb, eqb, Float, Option, None, Some}
 use Rattle.std.proofs.Common.{sym, ◌∙◌, add-zero, zero-add, arith, length-append, length-drop, drop-cons, get_or-append-add, get_or-drop, take_at, drop_at, drop-drop, ext_get_or, le→leb}
 use Rattle.std.proofs.Math.Path.{ap, subst, transport}
 use mathlib.Core.List.{List, [], ◌∷◌, ◌++◌, map, append_assoc}
-use Rattle.std.proofs.Math.Option.{Option, none, some}
 use Rattle.std.proofs.Math.ListN.{length, get_or-append, get_or-eq_default}
 use Rattle.std.proofs.lemmas.List.{length-map}
 use Rattle.std.proofs.Math.Seq.{take-append_seam, drop-append_seam, drop-append-add}
@@ -87,15 +86,15 @@ all-at d (h & p) (suc k) l = all-at d p k (omega arith)
 
 -- ---- a mark, a phase and a parked message are read from the words that they make
 mark-back : (m : Option Float) → T (valid.mark_fits m) → mark_in (mark_word m) ≡ m
-mark-back none t = not_made
-mark-back (some x) t = ap time_in (bits_back x t)
+mark-back None t = not_made
+mark-back (Some x) t = ap time_in (bits_back x t)
 
 timer-back : (x : Float) → T (is_timer x) → of_bits binary64 (to_bits binary64 x) ≡ x
 timer-back x t = of_bits-to_bits binary64 x (timer-fits x t)
 
 mark-timer : (m : Option Float) → T (valid.mark_fits m) → T (mark_fits (mark_word m))
-mark-timer none t = rw (timer-back never never-timer) never-timer
-mark-timer (some x) t = let u = time-timer x t in rw (timer-back x u) u
+mark-timer None t = rw (timer-back never never-timer) never-timer
+mark-timer (Some x) t = let u = time-timer x t in rw (timer-back x u) u
 
 working-back : (p : ProcessorPhase) → working_of (working_number p) ≡ p
 working-back working.Passive = refl
@@ -123,7 +122,7 @@ all_back (◌&◌ {x = m} h p) = λ i. parked-back m h i ∷ all_back p i
 
 -- ---- a stopwatch's three columns
 abbrev no_job : Marks
-no_job = record { name = 0; start = none; stop = none }
+no_job = record { name = 0; start = None; stop = None }
 
 abbrev name_of : Marks → ℕ
 name_of j = j.name

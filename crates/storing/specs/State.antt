@@ -1,6 +1,5 @@
 -- A simulation as the words of a lent state (docs/LAYOUT.md), how long the buffer must be, and what 20 asks of it. Definitions only. Assumes nothing.
-use Rattle.std.specs.Prelude.{ℕ, ◌+◌, ◌-◌, ◌*◌, ◌/◌, ◌^◌, Bool, List, [], ◌∷◌, ◌++◌, map, length, leb, eqb, Float, if◌then◌else◌}
-use Rattle.std.proofs.Math.Option.{Option, none, some}
+use Rattle.std.specs.Prelude.{ℕ, ◌+◌, ◌-◌, ◌*◌, ◌/◌, ◌^◌, Bool, List, [], ◌∷◌, ◌++◌, map, length, leb, eqb, Float, if◌then◌else◌, Option, None, Some}
 use Rattle.std.specs.Float.{binary64}
 use Rattle.std.specs.Float.Ieee.{to_bits}
 use Rattle.times.specs.Time.{never}
@@ -24,8 +23,8 @@ filled words = words ++ zeros (most_jobs - length words)
 
 -- the bits of a mark's time, or of infinity where it was not made
 abbrev pub mark_word : Option Float → ℕ
-mark_word none = to_bits binary64 never
-mark_word (some x) = to_bits binary64 x
+mark_word None = to_bits binary64 never
+mark_word (Some x) = to_bits binary64 x
 
 -- component's id, port and content in one word
 abbrev pub parked_word : Parked → ℕ

@@ -1,10 +1,9 @@
 -- The bounds of a cell, tests on ports, and lists of tests, said in the code's terms. Assumes nothing.
-use Rattle.std.specs.Prelude.{if◌then◌else◌, Some}
+use Rattle.std.specs.Prelude.{if◌then◌else◌, Some, Option, None}
 use Prim.Native.Nat.{ℕ, zero, suc, ◌+◌, ◌-◌, ◌*◌, ◌/◌, ◌≤◌, ◌<◌, ◌^◌}
 use mathlib.Core.Path.{◌≡◌, refl, sym, ap, ◌∙◌}
 use mathlib.Core.Bool.{Bool, true, false, not}
 use mathlib.Core.List.{List, [], ◌∷◌}
-use mathlib.Core.Option.{Option, none, some}
 use native.Mathlib.Nat.{suc-mul, div-mul-le_self, mul-le-mul_right, div-lt_iff_lt-mul}
 use native.Mathlib.Numerals.{add-one}
 use native.Mathlib.Omega.{arith}
@@ -75,7 +74,7 @@ module _ (row : List ℕ) (at end : ℕ) where
 
 -- ---- a stopwatch whose ports fit: what is left is whether they differ
 pub ports-left : (t : Bool) {a b c d : ℕ} (m : Metric) → a ≤ 65535 → b ≤ 65535 → c ≤ 65535 → d ≤ 65535 → hold (not (eqb a b) ∷ not (eqb a c) ∷ not (eqb b c) ∷ []) ≡ t
-    → (if t then named (stopwatch_of a b c d m) else Broken) ≡ kind_of (some (stopwatch_of a b c d m))
+    → (if t then named (stopwatch_of a b c d m) else Broken) ≡ kind_of (Some (stopwatch_of a b c d m))
 ports-left t {a} {b} {c} {d} m p q r s e = rw (port-fits a p, port-fits b q, port-fits c r, port-fits d s, e)
 
 -- ---- a time that was read
@@ -84,9 +83,9 @@ time-read bits x e = let z = time-says bits x e in (ap is_time (sym z.1) ∙ is_
 
 -- ---- a stopwatch's metric: word 8, or 0 where it is omitted
 abbrev metric_of : ℕ → Option Metric
-metric_of word = if eqb word 0 then some Minimum else if eqb word 1 then some Maximum else none
+metric_of word = if eqb word 0 then Some Minimum else if eqb word 1 then Some Maximum else None
 
-metric-by : (given : Bool) (word : ℕ) → (if given then metric_of word else some Minimum) ≡ metric_of (if given then word else 0)
+metric-by : (given : Bool) (word : ℕ) → (if given then metric_of word else Some Minimum) ≡ metric_of (if given then word else 0)
 metric-by true word = refl
 metric-by false word = refl
 
@@ -94,13 +93,13 @@ module _ {w : ℕ} (row : List ℕ) (e : w ≡ setting_in 4 0 row) where
   metric-read : metric_in row ≡ metric_of w
   metric-read = metric-by (is_given 4 row) (cell row 8) ∙ ap metric_of (sym e)
 
-  pub metric-0 : w ≡ 0 → metric_in row ≡ some Minimum
+  pub metric-0 : w ≡ 0 → metric_in row ≡ Some Minimum
   metric-0 h = metric-read ∙ rw h
 
-  pub metric-1 : w ≡ 1 → metric_in row ≡ some Maximum
+  pub metric-1 : w ≡ 1 → metric_in row ≡ Some Maximum
   metric-1 h = metric-read ∙ rw h
 
-  pub metric-else : (w ≡ 0 → ⊥) → (w ≡ 1 → ⊥) → metric_in row ≡ none
+  pub metric-else : (w ≡ 0 → ⊥) → (w ≡ 1 → ⊥) → metric_in row ≡ None
   metric-else g h = metric-read ∙ rw (ne_eqb w 0 g, ne_eqb w 1 h)
 
 -- ---- a search backwards through the rows before `k`

@@ -1,10 +1,9 @@
 -- The tests of the words agree with the rules of intake: each row's, and so the first bad row of each part, and the verdict. Assumes nothing.
 use Prim.Native.Nat.{ℕ, zero, suc}
-use Rattle.std.specs.Prelude.{◌≡◌, refl, Bool, false, ◌&&◌, List, [], ◌∷◌, ◌++◌, map, length, T, ltb, eqb, if◌then◌else◌, None, Some}
+use Rattle.std.specs.Prelude.{◌≡◌, refl, Bool, false, ◌&&◌, List, [], ◌∷◌, ◌++◌, map, length, T, ltb, eqb, if◌then◌else◌, None, Some, Option}
 use Rattle.std.proofs.Math.Path.{sym}
 use Rattle.std.proofs.Common.{ap, ◌∙◌, subst, true≢false, arith, eqb→eq}
 use Rattle.std.proofs.Math.Bool.{true, not}
-use Rattle.std.proofs.Math.Option.{Option, none, some}
 use borrow.Author.Tests.{ne_eqb, le-leb, lt-leb}
 use Rattle.std.proofs.Math.Dec.{leb}
 use Rattle.std.specs.Float.Ieee.{binary64, of_bits}
@@ -24,19 +23,19 @@ use Rattle.table.specs.Judging.{processor_of, batcher_of, stopwatch_of, input_in
 
 -- a row that is whole, and keeps these rules
 abbrev pub keeps : {A : Type 0} → (A → List Bool) → Option A → Bool
-keeps rules none = false
-keeps rules (some x) = hold (rules x)
+keeps rules None = false
+keeps rules (Some x) = hold (rules x)
 
-keeps-where : {A : Type 0} (rules : A → List Bool) (b : Bool) (x : A) → keeps rules (if b then some x else none) ≡ (if b then hold (rules x) else false)
+keeps-where : {A : Type 0} (rules : A → List Bool) (b : Bool) (x : A) → keeps rules (if b then Some x else None) ≡ (if b then hold (rules x) else false)
 keeps-where rules true x = refl
 keeps-where rules false x = refl
 
 abbrev pub place_of : Option ℕ → Option ℕ
-place_of (Some k) = some k
-place_of None = none
+place_of (Some k) = Some k
+place_of None = None
 
 -- ---- the first bad row, by a test of each
-pick-place : (b : Bool) (k : ℕ) (rest : Option ℕ) → (if b then place_of rest else some k) ≡ place_of (if not b then Some k else rest)
+pick-place : (b : Bool) (k : ℕ) (rest : Option ℕ) → (if b then place_of rest else Some k) ≡ place_of (if not b then Some k else rest)
 pick-place true k rest = refl
 pick-place false k rest = refl
 
@@ -46,15 +45,15 @@ first-bad-is {A} rules f k (suc n) = go (f k) (first-bad-is rules f (suc k) n)
   where
     go : (o : Option A) → first_bad rules (suc k) (map f (from (suc k) n)) ≡ place_of (first_from (λ j. not (keeps rules (f j))) (suc k) n)
         → first_bad rules k (o ∷ map f (from (suc k) n)) ≡ place_of (if not (keeps rules o) then Some k else first_from (λ j. not (keeps rules (f j))) (suc k) n)
-    go none e = refl
-    go (some x) e = rw e (pick-place (hold (rules x)) k (first_from (λ j. not (keeps rules (f j))) (suc k) n))
+    go None e = refl
+    go (Some x) e = rw e (pick-place (hold (rules x)) k (first_from (λ j. not (keeps rules (f j))) (suc k) n))
 
 -- ---- a model row
-pub read : (row : List ℕ) (o : Option Table.Kind) (r : Table.Row) → Layout.row_in row o ≡ some r → record { id = cell row 0; parent = parent_in row; kind = kind_or o } ≡ r
-read row none r e = absurd (no-some e)
-read row (some k) r e = go (hold (eqb (length row) model_width ∷ ltb (cell row 2) 8 ∷ every is_port (Layout.unused_ports k row) ∷ [])) e
+pub read : (row : List ℕ) (o : Option Table.Kind) (r : Table.Row) → Layout.row_in row o ≡ Some r → record { id = cell row 0; parent = parent_in row; kind = kind_or o } ≡ r
+read row None r e = absurd (no-some e)
+read row (Some k) r e = go (hold (eqb (length row) model_width ∷ ltb (cell row 2) 8 ∷ every is_port (Layout.unused_ports k row) ∷ [])) e
   where
-    go : (b : Bool) → (if b then some (record { id = cell row 0; parent = parent_in row; kind = k }) else none) ≡ some r → record { id = cell row 0; parent = parent_in row; kind = k } ≡ r
+    go : (b : Bool) → (if b then Some (record { id = cell row 0; parent = parent_in row; kind = k }) else None) ≡ Some r → record { id = cell row 0; parent = parent_in row; kind = k } ≡ r
     go true e = cc
     go false e = absurd (no-some e)
 
@@ -65,11 +64,11 @@ rows-first models k (suc n) = go (model_row (row_of model_width models k)) (read
     rest : Option ℕ
     rest = first_from (λ j. not (keeps (row_rules (earlier_in models j)) (model_row (row_of model_width models j)))) (suc k) n
 
-    go : (o : Option Table.Row) → ((r : Table.Row) → o ≡ some r → row_in models k ≡ r)
+    go : (o : Option Table.Row) → ((r : Table.Row) → o ≡ Some r → row_in models k ≡ r)
         → first_bad_row (suc k) (row_in models k ∷ earlier_in models k) (map (λ j. model_row (row_of model_width models j)) (from (suc k) n)) ≡ place_of rest
         → first_bad_row k (earlier_in models k) (o ∷ map (λ j. model_row (row_of model_width models j)) (from (suc k) n)) ≡ place_of (if not (keeps (row_rules (earlier_in models k)) o) then Some k else rest)
-    go none f e = refl
-    go (some r) f e = rw (rw (f r refl) at e) (pick-place (hold (row_rules (earlier_in models k) r)) k rest)
+    go None f e = refl
+    go (Some r) f e = rw (rw (f r refl) at e) (pick-place (hold (row_rules (earlier_in models k) r)) k rest)
 
 -- ---- lists of tests
 -- a list whose last test fails
@@ -130,11 +129,11 @@ row-tests true true false true false e i n p d = refl
 row-tests true true false false false e i n p d = refl
 
 -- what holds of each kind that a row can have, and of none, holds of the row's
-kind-cases : (row : List ℕ) (P : Option Table.Kind → Type 0) → P (some (processor_of (cell row 4) (cell row 7) (capacity_in row))) → P (some (batcher_of (cell row 4) (cell row 7) (cell row 8) (cell row 9)))
-    → ((o : Option Metric) → P (stopwatch_in row o)) → P (some Table.coupled) → P none → P (kind_in row)
+kind-cases : (row : List ℕ) (P : Option Table.Kind → Type 0) → P (Some (processor_of (cell row 4) (cell row 7) (capacity_in row))) → P (Some (batcher_of (cell row 4) (cell row 7) (cell row 8) (cell row 9)))
+    → ((o : Option Metric) → P (stopwatch_in row o)) → P (Some Table.coupled) → P None → P (kind_in row)
 kind-cases row P processor batcher stopwatch coupled nothing = go (eqb (cell row 1) 1) (eqb (cell row 1) 2) (eqb (cell row 1) 3) (eqb (cell row 1) 4)
   where
-    go : (a b c d : Bool) → P (if a then some (processor_of (cell row 4) (cell row 7) (capacity_in row)) else if b then some (batcher_of (cell row 4) (cell row 7) (cell row 8) (cell row 9)) else if c then stopwatch_in row (metric_in row) else if d then some Table.coupled else none)
+    go : (a b c d : Bool) → P (if a then Some (processor_of (cell row 4) (cell row 7) (capacity_in row)) else if b then Some (batcher_of (cell row 4) (cell row 7) (cell row 8) (cell row 9)) else if c then stopwatch_in row (metric_in row) else if d then Some Table.coupled else None)
     go true b c d = processor
     go false true c d = batcher
     go false false true d = stopwatch (metric_in row)
@@ -142,7 +141,7 @@ kind-cases row P processor batcher stopwatch coupled nothing = go (eqb (cell row
     go false false false false = nothing
 
 -- a kind is named where its rules hold
-named-is : (k : Table.Kind) → is_kind (kind_of (some k)) ≡ hold (kind_rules k)
+named-is : (k : Table.Kind) → is_kind (kind_of (Some k)) ≡ hold (kind_rules k)
 named-is k = go k (hold (kind_rules k))
   where
     go : (k : Table.Kind) (b : Bool) → is_kind (if b then named k else Broken) ≡ b
@@ -162,11 +161,11 @@ module _ (earlier : List Table.Row) (row : List ℕ) where
       ≡ (hold (eqb (length row) model_width ∷ ltb (cell row 2) 8 ∷ cells_fit row 4 8 ∷ is_kind (kind_of o) ∷ [])
       && hold (is_id (cell row 0) ∷ is_new earlier (cell row 0) ∷ parent_fits earlier (parent_in row) ∷ depth_fits earlier (with_kind o) ∷ []))
 
-  agree : (k : Table.Kind) → (every is_port (Layout.unused_ports k row) && hold (kind_rules k)) ≡ (cells_fit row 4 8 && hold (kind_rules k)) → Agree (some k)
+  agree : (k : Table.Kind) → (every is_port (Layout.unused_ports k row) && hold (kind_rules k)) ≡ (cells_fit row 4 8 && hold (kind_rules k)) → Agree (Some k)
   agree k e =
-      keeps-where (row_rules earlier) (hold (eqb (length row) model_width ∷ ltb (cell row 2) 8 ∷ every is_port (Layout.unused_ports k row) ∷ [])) (with_kind (some k))
+      keeps-where (row_rules earlier) (hold (eqb (length row) model_width ∷ ltb (cell row 2) 8 ∷ every is_port (Layout.unused_ports k row) ∷ [])) (with_kind (Some k))
       ∙ rw (named-is k) (row-tests (eqb (length row) model_width) (ltb (cell row 2) 8) (every is_port (Layout.unused_ports k row)) (cells_fit row 4 8) (hold (kind_rules k)) e
-      (is_id (cell row 0)) (is_new earlier (cell row 0)) (parent_fits earlier (parent_in row)) (depth_fits earlier (with_kind (some k))))
+      (is_id (cell row 0)) (is_new earlier (cell row 0)) (parent_fits earlier (parent_in row)) (depth_fits earlier (with_kind (Some k))))
 
   -- the four ports
   abbrev p4 : Bool
@@ -181,13 +180,13 @@ module _ (earlier : List Table.Row) (row : List ℕ) where
   abbrev p7 : Bool
   p7 = is_port (cell row 7)
 
-  none-agrees : Agree none
+  none-agrees : Agree None
   none-agrees = rw (last-fails (eqb (length row) model_width ∷ ltb (cell row 2) 8 ∷ cells_fit row 4 8 ∷ []))
 
   stopwatch-agrees : (o : Option Metric) → Agree (stopwatch_in row o)
   unfolding cells_fit
-  stopwatch-agrees none = none-agrees
-  stopwatch-agrees (some m) = agree (stopwatch_of (cell row 4) (cell row 5) (cell row 6) (cell row 7) m) (all-used p4 p5 p6 p7 (not (eqb (cell row 4) (cell row 5)) ∷ not (eqb (cell row 4) (cell row 6)) ∷ not (eqb (cell row 5) (cell row 6)) ∷ []))
+  stopwatch-agrees None = none-agrees
+  stopwatch-agrees (Some m) = agree (stopwatch_of (cell row 4) (cell row 5) (cell row 6) (cell row 7) m) (all-used p4 p5 p6 p7 (not (eqb (cell row 4) (cell row 5)) ∷ not (eqb (cell row 4) (cell row 6)) ∷ not (eqb (cell row 5) (cell row 6)) ∷ []))
 
   agree-all : Agree (kind_in row)
   unfolding cells_fit
@@ -249,7 +248,7 @@ module _ (rows : List Table.Row) (row : List ℕ) where
   fields = wide ∷ hold (port 0 ∷ []) ∷ hold (port 2 ∷ port 3 ∷ port 4 ∷ port 5 ∷ []) ∷ []
 
   -- by the word of its kind
-  by_kind : (n : ℕ) → keeps (coupling_rules rows) (whole_coupling row (if eqb n 1 then some (input_in row, cell row 2) else if eqb n 2 then some (output_in row, cell row 4) else if eqb n 3 then some (inner_in row, 0) else none))
+  by_kind : (n : ℕ) → keeps (coupling_rules rows) (whole_coupling row (if eqb n 1 then Some (input_in row, cell row 2) else if eqb n 2 then Some (output_in row, cell row 4) else if eqb n 3 then Some (inner_in row, 0) else None))
       ≡ hold (fields ++ (owner_fits rows (cell row 0) n (cell row 4) ∷ []))
   unfolding owner_fits
   by_kind zero = sym (last-fails fields)

@@ -1,9 +1,8 @@
 -- The tests against the rows before a row, as searches of the words. Assumes nothing.
-use Rattle.std.specs.Prelude.{ℕ, zero, suc, ◌+◌, ◌≡◌, refl, Bool, true, false, ◌&&◌, List, [], ◌∷◌, leb, if◌then◌else◌}
+use Rattle.std.specs.Prelude.{ℕ, zero, suc, ◌+◌, ◌≡◌, refl, Bool, true, false, ◌&&◌, List, [], ◌∷◌, leb, if◌then◌else◌, Option, None, Some}
 use Rattle.std.proofs.Math.Path.{sym, ap}
 use Rattle.std.proofs.Common.{◌∙◌, add-zero, zero-add, arith, eqb-true, ne_eqb}
 use Rattle.std.proofs.Math.Bool.{not}
-use Rattle.std.proofs.Math.Option.{Option, none, some}
 use Rattle.std.proofs.Math.Dec.{eqb}
 use Rattle.rules.specs.declared.Metric.{Metric}
 use Rattle.rules.specs.Sizes.{is_port}
@@ -35,7 +34,7 @@ some-earlier test models (suc k) = rw (some-earlier test models k) (sym (some-la
 -- ---- a row is a Coupled where its kind's word is 4
 module _ (n : ℕ) (p b : Table.Kind) (s : Option Table.Kind) (not-p : is_coupled p ≡ false) (not-b : is_coupled b ≡ false) (not-s : is_coupled (kind_or s) ≡ false) where
   abbrev by_4 : Bool → Option Table.Kind
-  by_4 t = if t then some Table.coupled else none
+  by_4 t = if t then Some Table.coupled else None
 
   coupled-4 : (t : Bool) → is_coupled (kind_or (by_4 t)) ≡ t
   coupled-4 true = refl
@@ -45,11 +44,11 @@ module _ (n : ℕ) (p b : Table.Kind) (s : Option Table.Kind) (not-p : is_couple
   coupled-3 true e = let g = eqb-true n 3 e in not-s ∙ sym (ne_eqb n 4 (λ f. omega arith))
   coupled-3 false e = coupled-4 (eqb n 4)
 
-  coupled-2 : (t : Bool) → eqb n 2 ≡ t → is_coupled (kind_or (if t then some b else if eqb n 3 then s else by_4 (eqb n 4))) ≡ eqb n 4
+  coupled-2 : (t : Bool) → eqb n 2 ≡ t → is_coupled (kind_or (if t then Some b else if eqb n 3 then s else by_4 (eqb n 4))) ≡ eqb n 4
   coupled-2 true e = let g = eqb-true n 2 e in not-b ∙ sym (ne_eqb n 4 (λ f. omega arith))
   coupled-2 false e = coupled-3 (eqb n 3) refl
 
-  coupled-1 : (t : Bool) → eqb n 1 ≡ t → is_coupled (kind_or (if t then some p else if eqb n 2 then some b else if eqb n 3 then s else by_4 (eqb n 4))) ≡ eqb n 4
+  coupled-1 : (t : Bool) → eqb n 1 ≡ t → is_coupled (kind_or (if t then Some p else if eqb n 2 then Some b else if eqb n 3 then s else by_4 (eqb n 4))) ≡ eqb n 4
   coupled-1 true e = let g = eqb-true n 1 e in not-p ∙ sym (ne_eqb n 4 (λ f. omega arith))
   coupled-1 false e = coupled-2 (eqb n 2) refl
 
@@ -58,8 +57,8 @@ coupled-is row =
     coupled-1 (cell row 1) (processor_of (cell row 4) (cell row 7) (capacity_in row)) (batcher_of (cell row 4) (cell row 7) (cell row 8) (cell row 9)) (stopwatch_in row (metric_in row)) refl refl (no-stopwatch (metric_in row)) (eqb (cell row 1) 1) refl
   where
     no-stopwatch : (o : Option Metric) → is_coupled (kind_or (stopwatch_in row o)) ≡ false
-    no-stopwatch none = refl
-    no-stopwatch (some m) = refl
+    no-stopwatch None = refl
+    no-stopwatch (Some m) = refl
 
 -- ---- ids and Coupleds among the rows before
 twice : (b : Bool) → (b && b) ≡ b
@@ -80,15 +79,15 @@ module _ (models : List ℕ) (k id : ℕ) where
       ∙ (λ i. some_of (λ j. eqb (cell (row_of model_width models j) 0) id && coupled-is (row_of model_width models j) i) (from 0 k))
 
 -- ---- depth looks at ids and parents alone
-pub none_deep : (models : List ℕ) (k : ℕ) → depth_of (before models k) none ≡ 1
+pub none_deep : (models : List ℕ) (k : ℕ) → depth_of (before models k) None ≡ 1
 none_deep models zero = refl
 none_deep models (suc k) = refl
 
 pub depth_same : (models : List ℕ) (k : ℕ) (parent : Option ℕ) → depth_of (earlier_in models k) parent ≡ depth_of (before models k) parent
 depth_same models zero parent = refl
-depth_same models (suc k) none = refl
-depth_same models (suc k) (some id) =
-    rw (depth_same models k (row_in models k).parent, depth_same models k (some id))
+depth_same models (suc k) None = refl
+depth_same models (suc k) (Some id) =
+    rw (depth_same models k (row_in models k).parent, depth_same models k (Some id))
 
 depth-fits-is : (models : List ℕ) (k : ℕ) → depth_fits (earlier_in models k) (row_in models k) ≡ (if eqb (cell (row_of model_width models k) 1) 4 then leb (depth_in models k) 4 else true)
 unfolding depth_in

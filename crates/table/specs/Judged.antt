@@ -1,11 +1,10 @@
 -- The verdict on a lent table is that of its words: sizes, then the first bad row of each part. Assumes nothing.
-use Rattle.std.specs.Prelude.{ℕ, zero, suc, ◌+◌, ◌*◌, ◌/◌, ◌≤◌, ◌<◌, ◌≡◌, refl, Bool, true, false, ◌&&◌, length, leb, if◌then◌else◌, None, Some}
+use Rattle.std.specs.Prelude.{ℕ, zero, suc, ◌+◌, ◌*◌, ◌/◌, ◌≤◌, ◌<◌, ◌≡◌, refl, Bool, true, false, ◌&&◌, length, leb, if◌then◌else◌, None, Some, Option}
 use Rattle.std.proofs.Common.{sym, ◌∙◌, subst, add-zero, zero-add, arith, le-leb}
 use Rattle.std.proofs.Math.Path.{ap}
 use Rattle.std.proofs.Math.Bool.{not}
 use Rattle.std.proofs.lemmas.Bool.{false≢true, lt-leb}
 use mathlib.Core.List.{List, [], ◌∷◌, map, map-map}
-use Rattle.std.proofs.Math.Option.{Option, none, some}
 use Rattle.std.proofs.lemmas.List.{length-map}
 use Rattle.std.proofs.Math.Dec.{T, eqb}
 use Rattle.std.specs.Float.Ieee.Bits.{is_true}
@@ -57,11 +56,11 @@ all_keep f k (suc n) e j l = go (f k) refl e j l (all_keep f (suc k) n)
     go true t e (suc j) l later = let m : suc k + j ≡ k + suc j = omega arith in rw m at (later e j (omega arith))
 
 -- rows that are all read whole
-pub lines-whole : {A : Type 0} (f : List ℕ → Option A) (g : ℕ → A) (width : ℕ) (words : List ℕ) → ((k : ℕ) → k < count_of width words → f (row_of width words k) ≡ some (g k))
+pub lines-whole : {A : Type 0} (f : List ℕ → Option A) (g : ℕ → A) (width : ℕ) (words : List ℕ) → ((k : ℕ) → k < count_of width words → f (row_of width words k) ≡ Some (g k))
     → whole (map f (rows_of width words)) ≡ map g (from 0 (count_of width words))
 lines-whole f g width words read =
     let ks = from 0 (count_of width words) in
-    ap whole (lines_are f width words ∙ map-from (λ k. f (row_of width words k)) (λ k. some (g k)) 0 (count_of width words) (λ k low l. read k (omega arith)) ∙ sym (map-map some g ks))
+    ap whole (lines_are f width words ∙ map-from (λ k. f (row_of width words k)) (λ k. Some (g k)) 0 (count_of width words) (λ k low l. read k (omega arith)) ∙ sym (map-map Some g ks))
     ∙ whole-some (map g ks)
 
 -- the rows of a part in which none is bad keep their rules
@@ -74,12 +73,12 @@ module _ (models : List ℕ) (fine : first_bad_in Models models models ≡ None)
   row_kept = all-kept Models models models fine
 
   -- each row is read whole
-  pub row_read : (k : ℕ) → k < count_of model_width models → model_row (row_of model_width models k) ≡ some (row_in models k)
+  pub row_read : (k : ℕ) → k < count_of model_width models → model_row (row_of model_width models k) ≡ Some (row_in models k)
   row_read k l = go (model_row (row_of model_width models k)) refl (row-keeps-is models k ∙ row_kept k l)
     where
-      go : (o : Option Table.Row) → model_row (row_of model_width models k) ≡ o → keeps (row_rules (earlier_in models k)) o ≡ true → model_row (row_of model_width models k) ≡ some (row_in models k)
-      go none e t = absurd (false≢true t)
-      go (some r) e t = e ∙ ap some (sym (read (row_of model_width models k) (kind_in (row_of model_width models k)) r e))
+      go : (o : Option Table.Row) → model_row (row_of model_width models k) ≡ o → keeps (row_rules (earlier_in models k)) o ≡ true → model_row (row_of model_width models k) ≡ Some (row_in models k)
+      go None e t = absurd (false≢true t)
+      go (Some r) e t = e ∙ ap Some (sym (read (row_of model_width models k) (kind_in (row_of model_width models k)) r e))
 
   whole_length : (k : ℕ) → k < count_of model_width models → length (row_of model_width models k) ≡ model_width
   unfolding row_keeps

@@ -1,6 +1,5 @@
 -- What the private functions of `table` answer: a row read whether it is whole or not, and the tests of a row, a connector and a coupling in the code's order. Definitions only. Assumes nothing.
-use Rattle.std.specs.Prelude.{ℕ, zero, suc, ◌-◌, ◌/◌, Bool, true, false, not, ◌&&◌, List, [], ◌∷◌, length, leb, ltb, eqb, if◌then◌else◌, None, Some}
-use Rattle.std.proofs.Math.Option.{Option, none, some}
+use Rattle.std.specs.Prelude.{ℕ, zero, suc, ◌-◌, ◌/◌, Bool, true, false, not, ◌&&◌, List, [], ◌∷◌, length, leb, ltb, eqb, if◌then◌else◌, None, Some, Option}
 use Rattle.std.specs.Float.{binary64}
 use Rattle.std.specs.Float.Ieee.{of_bits}
 use Rattle.rules.specs.declared.Metric.{Metric}
@@ -43,8 +42,8 @@ is_kind Coupled = true
 is_kind Broken = false
 
 abbrev pub option_of : Option ℕ → Option ℕ
-option_of None = none
-option_of (Some id) = some id
+option_of None = None
+option_of (Some id) = Some id
 
 -- ---- a coupling of each kind, as its words say
 abbrev pub input_in : List ℕ → Table.Coupling
@@ -58,8 +57,8 @@ inner_in row = Table.internal_coupling (cell row 0) (cell row 2) (cell row 3) (c
 
 -- ---- a row as its words say, whole or not. A kind that is none of the four is no Coupled
 abbrev pub kind_or : Option Table.Kind → Table.Kind
-kind_or none = processor_of 0 0 0
-kind_or (some k) = k
+kind_or None = processor_of 0 0 0
+kind_or (Some k) = k
 
 abbrev pub read_row : List ℕ → Table.Row
 read_row row = record { id = cell row 0; parent = parent_in row; kind = kind_or (kind_in row) }

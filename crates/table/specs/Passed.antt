@@ -1,10 +1,9 @@
 -- What the words of a table say once it has passed intake: how many there are, and that each row, connector and coupling of the table is read off them. Assumes nothing.
-use Rattle.std.specs.Prelude.{ℕ, zero, suc, ◌+◌, ◌*◌, ◌≤◌, ◌<◌, ◌≡◌, refl, Bool, true, false, length, take, T, leb, eqb, if◌then◌else◌, None, Some}
+use Rattle.std.specs.Prelude.{ℕ, zero, suc, ◌+◌, ◌*◌, ◌≤◌, ◌<◌, ◌≡◌, refl, Bool, true, false, length, take, T, leb, eqb, if◌then◌else◌, None, Some, Option}
 use Rattle.std.proofs.Math.Path.{sym, ap}
 use Rattle.std.proofs.Common.{◌∙◌, subst, add-zero, zero-add, arith, drop_of_length-le, leb→le, eqb→eq}
 use Rattle.std.proofs.lemmas.Bool.{false≢true}
 use mathlib.Core.List.{List, [], ◌∷◌, map, reverse_aux}
-use Rattle.std.proofs.Math.Option.{Option, none, some}
 use Rattle.std.proofs.Math.Decide.{dec_le}
 use Rattle.std.proofs.Math.ListN.{get_or, get_or-eq_default}
 use Rattle.std.specs.Float.Ieee.Bits.{is_true}
@@ -41,22 +40,22 @@ abbrev pub coupling_at : List ℕ → ℕ → Coupling
 coupling_at couplings k = coupling_of (row_of coupling_width couplings k)
 
 -- ---- lists
-pub place_none : (f : Option ℕ) → place_of f ≡ none → f ≡ None
+pub place_none : (f : Option ℕ) → place_of f ≡ None → f ≡ None
 place_none (Some k) e = absurd (no-some (sym e))
 place_none None e = refl
 
 -- ---- one row
-row_is : (row : List ℕ) (o : Option Kind) (r : Row) → Layout.row_in row o ≡ some r → o ≡ some (kind_or o)
-row_is row none r e = absurd (no-some e)
-row_is row (some k) r e = refl
+row_is : (row : List ℕ) (o : Option Kind) (r : Row) → Layout.row_in row o ≡ Some r → o ≡ Some (kind_or o)
+row_is row None r e = absurd (no-some e)
+row_is row (Some k) r e = refl
 
-connector-is : (row : List ℕ) → connector_keeps row ≡ true → (length row ≡ connector_width) × (connector_row row ≡ some (connector_of row))
+connector-is : (row : List ℕ) → connector_keeps row ≡ true → (length row ≡ connector_width) × (connector_row row ≡ Some (connector_of row))
 unfolding connector_keeps
 connector-is row e =
     let t = (if-both (eqb (length row) connector_width) _ (subst T (sym e) tt)).0 in
     (eqb→eq (length row) connector_width t, rw (is_true (eqb (length row) connector_width) t))
 
-kept : {A : Type 0} (rules : A → List Bool) (b : Bool) (x : A) → keeps rules (if b then some x else none) ≡ true → (if b then some x else none) ≡ some x
+kept : {A : Type 0} (rules : A → List Bool) (b : Bool) (x : A) → keeps rules (if b then Some x else None) ≡ true → (if b then Some x else None) ≡ Some x
 kept rules true x e = refl
 kept rules false x e = absurd (false≢true e)
 
@@ -65,7 +64,7 @@ pub record CouplingIs (row : List ℕ) : Type 0 where
   pub long : length row ≡ coupling_width
   pub kind-from : 1 ≤ cell row 1
   pub kind-to : cell row 1 ≤ 3
-  pub reads : coupling_row row ≡ some (coupling_of row)
+  pub reads : coupling_row row ≡ Some (coupling_of row)
 
 owner-kinds : (rows : List Row) (owner kind target : ℕ) → T (owner_fits rows owner kind target) → (1 ≤ kind) × (kind ≤ 3)
 unfolding owner_fits
@@ -78,8 +77,8 @@ unfolding coupling_keeps
 coupling-is rows row e = is (parts (eqb (length row) coupling_width ∷ cells_fit row 0 1 ∷ cells_fit row 2 6 ∷ owner_fits rows (cell row 0) (cell row 1) (cell row 4) ∷ []) (subst T (sym e) tt))
   where
     go : (x y z : Coupling) (u v w : ℕ) (a b c : Bool)
-        → keeps (coupling_rules rows) (Layout.whole_coupling row (if a then some (x, u) else if b then some (y, v) else if c then some (z, w) else none)) ≡ true
-        → Layout.whole_coupling row (if a then some (x, u) else if b then some (y, v) else if c then some (z, w) else none) ≡ some (if a then x else if b then y else z)
+        → keeps (coupling_rules rows) (Layout.whole_coupling row (if a then Some (x, u) else if b then Some (y, v) else if c then Some (z, w) else None)) ≡ true
+        → Layout.whole_coupling row (if a then Some (x, u) else if b then Some (y, v) else if c then Some (z, w) else None) ≡ Some (if a then x else if b then y else z)
     go x y z u v w true b c e = kept (coupling_rules rows) (hold (eqb (length row) coupling_width ∷ is_id u ∷ [])) x e
     go x y z u v w false true c e = kept (coupling_rules rows) (hold (eqb (length row) coupling_width ∷ is_id v ∷ [])) y e
     go x y z u v w false false true e = kept (coupling_rules rows) (hold (eqb (length row) coupling_width ∷ is_id w ∷ [])) z e
@@ -194,9 +193,9 @@ module _ (models connectors couplings : List ℕ) (t : Table) (e : intake (lent 
   pub parent-read : (i : ℕ) → (row_at t i).parent ≡ parent_in (row_of model_width models i)
   parent-read = everywhere (λ r row i. r.parent ≡ parent_in row) (λ i l. refl) (λ i. refl)
 
-  pub kind-read : (i : ℕ) → i < length t.rows → kind_in (row_of model_width models i) ≡ some (kind_at t i)
+  pub kind-read : (i : ℕ) → i < length t.rows → kind_in (row_of model_width models i) ≡ Some (kind_at t i)
   kind-read i l =
-      row_is (row_of model_width models i) (kind_in (row_of model_width models i)) (row_in models i) (row_read models no-bad-row i (rw rows-count at l)) ∙ ap (λ (r : Row). some r.kind) (sym (row-at i l))
+      row_is (row_of model_width models i) (kind_in (row_of model_width models i)) (row_in models i) (row_read models no-bad-row i (rw rows-count at l)) ∙ ap (λ (r : Row). Some r.kind) (sym (row-at i l))
 
   pub kind-keeps : (i : ℕ) → hold (kind_rules (kind_at t i)) ≡ true
   kind-keeps i = is_true (hold (kind_rules (kind_at t i))) (whole_of ((fine t (passed-again (lent models connectors couplings) t e)).kinds i))

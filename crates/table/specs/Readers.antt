@@ -1,6 +1,5 @@
 -- What the readers of a lent table answer, by the layout (rules, Layout.antt). Definitions only. Assumes nothing.
-use Rattle.std.specs.Prelude.{ℕ, zero, suc, ◌*◌, List, [], ◌∷◌, take, drop, if◌then◌else◌, None, Some}
-use Rattle.std.proofs.Math.Option.{Option, none, some}
+use Rattle.std.specs.Prelude.{ℕ, zero, suc, ◌*◌, List, [], ◌∷◌, take, drop, if◌then◌else◌, None, Some, Option}
 use Rattle.rules.specs.Base.{hold}
 use Rattle.rules.specs.Table as Table
 use Rattle.rules.specs.Intake.{kind_rules, depth_of}
@@ -23,12 +22,12 @@ named Table.coupled = Coupled
 
 -- a kind whose own rules hold
 abbrev pub kind_of : Option Table.Kind → Kind
-kind_of none = Broken
-kind_of (some k) = if hold (kind_rules k) then named k else Broken
+kind_of None = Broken
+kind_of (Some k) = if hold (kind_rules k) then named k else Broken
 
 abbrev pub parent_of : Option ℕ → Option ℕ
-parent_of none = None
-parent_of (some id) = Some id
+parent_of None = None
+parent_of (Some id) = Some id
 
 -- a row's id and parent; its kind is not looked at
 abbrev pub plain_row : List ℕ → ℕ → Table.Row

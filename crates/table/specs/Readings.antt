@@ -1,8 +1,7 @@
 -- What was read of a row: its parent, and a Processor whose ports fit. Assumes nothing.
-use Rattle.std.specs.Prelude.{ℕ, ◌<◌, ◌^◌, ◌≡◌, refl, Bool, true, false, List, [], ◌∷◌, if◌then◌else◌}
+use Rattle.std.specs.Prelude.{ℕ, ◌<◌, ◌^◌, ◌≡◌, refl, Bool, true, false, List, [], ◌∷◌, if◌then◌else◌, Option, None, Some}
 use Rattle.std.proofs.Common.{sym, ap, ◌∙◌, lt-ltb}
 use Rattle.std.proofs.lemmas.Bool.{false≢true}
-use Rattle.std.proofs.Math.Option.{Option, none, some}
 use Rattle.rules.specs.Sizes.{is_port, is_word, omitted_capacity}
 use Rattle.rules.specs.Base.{hold}
 use Rattle.rules.specs.Layout.{cell, is_given, capacity_in, kind_in}
@@ -11,8 +10,8 @@ use Rattle.table.specs.Judging.{option_of, is_kind, cells_fit}
 use Rattle.rules.specs.Ends.{one}
 
 pub parent-back : {p : Option ℕ} (o : Option ℕ) → p ≡ parent_of o → o ≡ option_of p
-parent-back none e = sym (ap option_of e)
-parent-back (some id) e = sym (ap option_of e)
+parent-back None e = sym (ap option_of e)
+parent-back (Some id) e = sym (ap option_of e)
 
 module _ (row : List ℕ) (ports : cells_fit row 4 8 ≡ true) (setting : cell row 8 < 2 ^ 64) where
   capacity-fits : is_word (capacity_in row) ≡ true

@@ -1,8 +1,7 @@
 -- What the words of a table say where intake refuses it: the rows before a bad one are those of their words, and the bad one fails the tests of its own; and that none does where no bad one is found. Assumes nothing.
-use Rattle.std.specs.Prelude.{ℕ, zero, suc, ◌+◌, ◌*◌, ◌≤◌, ◌<◌, ◌≡◌, refl, Bool, true, false, not, get_or, take, None, Some}
+use Rattle.std.specs.Prelude.{ℕ, zero, suc, ◌+◌, ◌*◌, ◌≤◌, ◌<◌, ◌≡◌, refl, Bool, true, false, not, get_or, take, None, Some, Option}
 use Rattle.std.proofs.Common.{sym, ap, ◌∙◌, subst, add-zero, zero-add, arith, drop_of_length-le}
 use mathlib.Core.List.{List, [], map, reverse_aux}
-use Rattle.std.proofs.Math.Option.{Option, none, some}
 use Rattle.std.proofs.Math.Decide.{dec_le}
 use Rattle.std.proofs.lemmas.Bool.{not-true}
 use Rattle.std.proofs.Math.ListN.{get_or-eq_default}
@@ -37,25 +36,25 @@ line-is width wide words j = elim (dec_le (suc j) (count_of width words)) [
 ]
 
 -- ---- the bad row of a part
-bad-at : (part : Part) (models words : List ℕ) (k : ℕ) → place_of (first_bad_in part models words) ≡ some k → keeps_in part models words k ≡ false
+bad-at : (part : Part) (models words : List ℕ) (k : ℕ) → place_of (first_bad_in part models words) ≡ Some k → keeps_in part models words k ≡ false
 bad-at part models words k = go (first_bad_in part models words) refl
   where
-    go : (f : Option ℕ) → first_bad_in part models words ≡ f → place_of f ≡ some k → keeps_in part models words k ≡ false
+    go : (f : Option ℕ) → first_bad_in part models words ≡ f → place_of f ≡ Some k → keeps_in part models words k ≡ false
     go (Some j) e h =
         let same : j ≡ k = cc in
         rw (← same) (not-true (keeps_in part models words j) (first-at (λ i. not (keeps_in part models words i)) 0 (count_of (width_of part) words) j e).2)
     go None e h = absurd (no-some h)
 
 module _ (models : List ℕ) (k : ℕ) where
-  pub bad-row : first_bad_row 0 [] (map model_row (rows_of model_width models)) ≡ some k → row_keeps models k ≡ false
+  pub bad-row : first_bad_row 0 [] (map model_row (rows_of model_width models)) ≡ Some k → row_keeps models k ≡ false
   unfolding keeps_in
   bad-row e = bad-at Models models models k (sym (rows_agree models) ∙ e)
 
-  pub bad-connector : (connectors : List ℕ) → first_bad connector_rules 0 (map connector_row (rows_of connector_width connectors)) ≡ some k → connector_keeps (row_of connector_width connectors k) ≡ false
+  pub bad-connector : (connectors : List ℕ) → first_bad connector_rules 0 (map connector_row (rows_of connector_width connectors)) ≡ Some k → connector_keeps (row_of connector_width connectors k) ≡ false
   unfolding keeps_in
   bad-connector connectors e = bad-at Connectors models connectors k (sym (connectors-agree models connectors) ∙ e)
 
-  pub connector-passes : (connectors : List ℕ) → first_bad connector_rules 0 (map connector_row (rows_of connector_width connectors)) ≡ none → k < count_of connector_width connectors → connector_keeps (row_of connector_width connectors k) ≡ true
+  pub connector-passes : (connectors : List ℕ) → first_bad connector_rules 0 (map connector_row (rows_of connector_width connectors)) ≡ None → k < count_of connector_width connectors → connector_keeps (row_of connector_width connectors k) ≡ true
   unfolding keeps_in
   connector-passes connectors e l = all-kept Connectors models connectors (place_none _ (sym (connectors-agree models connectors) ∙ e)) k l
 
@@ -63,12 +62,12 @@ module _ (models : List ℕ) (k : ℕ) where
 module _ (models : List ℕ) where
   -- the row j is read whole
   abbrev Read : ℕ → Type 0
-  Read j = model_row (row_of model_width models j) ≡ some (row_in models j)
+  Read j = model_row (row_of model_width models j) ≡ Some (row_in models j)
 
-  pub posted-is : (j : ℕ) → j < count_of model_width models → get_or (map model_row (rows_of model_width models)) j none ≡ model_row (row_of model_width models j)
+  pub posted-is : (j : ℕ) → j < count_of model_width models → get_or (map model_row (rows_of model_width models)) j None ≡ model_row (row_of model_width models j)
   posted-is j l =
-      ap (λ (rs : List (Option Row)). get_or rs j none) (lines_are model_row model_width models)
-      ∙ get_d-from (λ i. model_row (row_of model_width models i)) none 0 (count_of model_width models) j l ∙ ap (λ i. model_row (row_of model_width models i)) (zero-add j)
+      ap (λ (rs : List (Option Row)). get_or rs j None) (lines_are model_row model_width models)
+      ∙ get_d-from (λ i. model_row (row_of model_width models i)) None 0 (count_of model_width models) j l ∙ ap (λ i. model_row (row_of model_width models i)) (zero-add j)
 
   pub fine-read : (k : ℕ) → k ≤ count_of model_width models → Fine (RowFine [] (map model_row (rows_of model_width models))) k → (j : ℕ) → j < k → Read j
   fine-read k few fine j l = go (RowKeeps earlier) (model_row (row_of model_width models j)) refl (subst (Whole (RowKeeps earlier)) (posted-is j (omega arith)) (fine j l))
@@ -77,8 +76,8 @@ module _ (models : List ℕ) where
       earlier = reverse_aux (whole (take j (map model_row (rows_of model_width models)))) []
 
       go : (P : Row → Type 0) (o : Option Row) → model_row (row_of model_width models j) ≡ o → Whole P o → Read j
-      go P none e w = absurd w
-      go P (some r) e w = e ∙ ap some (sym (read (row_of model_width models j) (kind_in (row_of model_width models j)) r e))
+      go P None e w = absurd w
+      go P (Some r) e w = e ∙ ap Some (sym (read (row_of model_width models j) (kind_in (row_of model_width models j)) r e))
 
   earlier-from : (i k n : ℕ) → i ≤ n → ((j : ℕ) → j < k + i → Read j)
       → reverse_aux (whole (take i (map (λ j. model_row (row_of model_width models j)) (from k n)))) (earlier_in models k) ≡ earlier_in models (k + i)
@@ -95,11 +94,11 @@ module _ (models : List ℕ) where
       ∙ earlier-from k 0 (count_of model_width models) few (λ j l. fine-read k few fine j (omega arith)) ∙ ap (earlier_in models) (zero-add k)
 
 -- ---- a coupling, where no row is bad
-module _ (models : List ℕ) (fine : first_bad_row 0 [] (map model_row (rows_of model_width models)) ≡ none) where
+module _ (models : List ℕ) (fine : first_bad_row 0 [] (map model_row (rows_of model_width models)) ≡ None) where
   no-bad-row : first_bad_in Models models models ≡ None
   no-bad-row = place_none _ (sym (rows_agree models) ∙ fine)
 
-  pub bad-coupling : (couplings : List ℕ) (k : ℕ) → first_bad (coupling_rules (whole (map model_row (rows_of model_width models)))) 0 (map coupling_row (rows_of coupling_width couplings)) ≡ some k
+  pub bad-coupling : (couplings : List ℕ) (k : ℕ) → first_bad (coupling_rules (whole (map model_row (rows_of model_width models)))) 0 (map coupling_row (rows_of coupling_width couplings)) ≡ Some k
       → coupling_keeps (all_in models) (row_of coupling_width couplings k) ≡ false
   unfolding keeps_in
   bad-coupling couplings k e = bad-at Couplings models couplings k (sym (couplings-agree models couplings no-bad-row) ∙ e)
@@ -107,7 +106,7 @@ module _ (models : List ℕ) (fine : first_bad_row 0 [] (map model_row (rows_of 
   pub row-passes : (k : ℕ) → k < count_of model_width models → row_keeps models k ≡ true
   row-passes = row_kept models no-bad-row
 
-  pub coupling-passes : (couplings : List ℕ) (k : ℕ) → first_bad (coupling_rules (whole (map model_row (rows_of model_width models)))) 0 (map coupling_row (rows_of coupling_width couplings)) ≡ none
+  pub coupling-passes : (couplings : List ℕ) (k : ℕ) → first_bad (coupling_rules (whole (map model_row (rows_of model_width models)))) 0 (map coupling_row (rows_of coupling_width couplings)) ≡ None
       → k < count_of coupling_width couplings → coupling_keeps (all_in models) (row_of coupling_width couplings k) ≡ true
   unfolding keeps_in
   coupling-passes couplings k e l = all-kept Couplings models couplings (place_none _ (sym (couplings-agree models couplings no-bad-row) ∙ e)) k l

@@ -1,8 +1,7 @@
 // The lent table: readers of its rows, and intake (refusals 1, 2 and 3, with the row). Layout: docs/LAYOUT.md.
 #![tactic(auto)]
 
-ghost use Rattle.std.specs.Prelude.{◌≡◌, true, not, ◌/◌, ◌≤◌, ◌<◌, length, take, drop, eqb};
-ghost use Rattle.std.proofs.Math.Option.{some};
+ghost use Rattle.std.specs.Prelude.{◌≡◌, true, not, ◌/◌, ◌≤◌, ◌<◌, length, take, drop, eqb, Some};
 ghost use Rattle.rules.specs.Layout as Layout;
 ghost use Rattle.rules.specs.Intake as Intake;
 ghost use Rattle.table.specs.Readers.{id_in, kind_of, parent_of, depth_in, row_of};
@@ -105,7 +104,7 @@ fn setting_in(cells: &[u64], field: u64, omitted: u64) -> u64
 }
 
 fn processor_of(input: u64, output: u64, capacity: u64) -> Kind
-    ensures { result ≡ kind_of (some (Judging.processor_of input output capacity)) }
+    ensures { result ≡ kind_of (Some (Judging.processor_of input output capacity)) }
 {
     if 0xFFFF < input {
         return Kind::Broken;
@@ -122,7 +121,7 @@ fn processor_of(input: u64, output: u64, capacity: u64) -> Kind
 
 // A Batcher's fields, or Broken.
 fn batcher_of(input: u64, output: u64, size: u64, bits: u64) -> Kind
-    ensures { result ≡ kind_of (some (Judging.batcher_of input output size bits)) }
+    ensures { result ≡ kind_of (Some (Judging.batcher_of input output size bits)) }
 {
     if 0xFFFF < input {
         return Kind::Broken;
@@ -148,7 +147,7 @@ fn batcher_of(input: u64, output: u64, size: u64, bits: u64) -> Kind
 }
 
 fn stopwatch_of(start: u64, stop: u64, ask: u64, output: u64, metric: Metric) -> Kind
-    ensures { result ≡ kind_of (some (Judging.stopwatch_of start stop ask output metric)) }
+    ensures { result ≡ kind_of (Some (Judging.stopwatch_of start stop ask output metric)) }
 {
     if 0xFFFF < start {
         return Kind::Broken;

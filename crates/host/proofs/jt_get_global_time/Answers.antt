@@ -6,10 +6,10 @@ use Rattle.storing.specs.Lent.{call_in}
 use Rattle.host.specs.NumberLaws.{clock-told}
 use Rattle.host.proofs.jt_get_global_time.Goals as goal
 
-pub returns-in-Some : goal.returns-in-Some
-returns-in-Some c =
-    let x = c.in-Some.clock in
-    let h = clock-told c.args.time.now (call_in Calls.get_global_time c.args.state.now) c.get_global_time.result (Ok x) c.get_global_time.ensures c.in-Some.is in
+pub returns-in-Ok : goal.returns-in-Ok
+returns-in-Ok c =
+    let x = c.in-Ok.clock in
+    let h = clock-told c.args.time.now (call_in Calls.get_global_time c.args.state.now) c.get_global_time.result (Ok x) c.get_global_time.ensures c.in-Ok.is in
     record { answers = h.0; tells = h.1 }
 
 pub returns-in-Err : goal.returns-in-Err

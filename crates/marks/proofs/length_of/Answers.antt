@@ -10,9 +10,9 @@ returns-in_default c = rw (sym c.time_of_bits-started.ensures ∙ c.in_default.i
 pub returns-in_default-stopped : goal.returns-in_default-stopped
 unfolding lasting_at
 returns-in_default-stopped c =
-    rw (sym c.time_of_bits-started.ensures ∙ c.in-Time.is, sym c.time_of_bits-stopped.ensures ∙ c.in_default-stopped.is)
+    rw (sym c.time_of_bits-started.ensures ∙ c.in-Some.is, sym c.time_of_bits-stopped.ensures ∙ c.in_default-stopped.is)
 
 pub returns : goal.returns
 unfolding lasting_at
 returns c =
-    rw (sym c.time_of_bits-started.ensures ∙ c.in-Time.is, sym c.time_of_bits-stopped.ensures ∙ c.in-Time-stopped.is)
+    rw (sym c.time_of_bits-started.ensures ∙ c.in-Some.is, sym c.time_of_bits-stopped.ensures ∙ c.in-Some-stopped.is)

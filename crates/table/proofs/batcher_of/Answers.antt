@@ -17,9 +17,9 @@ returns-then-size-lt1 c = rw (port-fits _ c.if-input-gt65535.false, port-fits _ 
 pub returns-then-size-gt4611686018427387904 : goal.returns-then-size-gt4611686018427387904
 returns-then-size-gt4611686018427387904 c = rw (port-fits _ c.if-input-gt65535.false, port-fits _ c.if-output-gt65535.false, le-leb _ _ c.if-size-lt1.false, lt-leb _ _ c.if-size-gt4611686018427387904.true)
 
-pub returns-in-Time : goal.returns-in-Time
-returns-in-Time c =
-    let z = time-read _ _ (sym c.time_of_bits.ensures ∙ c.in-Time.is) in
+pub returns-in-Some : goal.returns-in-Some
+returns-in-Some c =
+    let z = time-read _ _ (sym c.time_of_bits.ensures ∙ c.in-Some.is) in
     rw (z.1, port-fits _ c.if-input-gt65535.false, port-fits _ c.if-output-gt65535.false, le-leb _ _ c.if-size-lt1.false, le-leb _ _ c.if-size-gt4611686018427387904.false, z.0)
 
 pub returns-in-None : goal.returns-in-None

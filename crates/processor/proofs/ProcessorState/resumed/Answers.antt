@@ -12,7 +12,7 @@ returns-in-Time c =
     let a = c.args in
     λ queue e. laws.resumed-one a.services.now a.place a.self queue e (search rules) _ _ (rw c.in-Time.is at c.service_time.ensures)
 
-pub returns-in-Err : goal.returns-in-Err
-returns-in-Err c =
+pub returns-in-Refused : goal.returns-in-Refused
+returns-in-Refused c =
     let a = c.args in
-    λ queue e. laws.resumed-refused a.services.now a.place a.self queue e (search rules) _ (rw c.in-Err.is at c.service_time.ensures)
+    λ queue e. laws.resumed-refused a.services.now a.place a.self queue e (search rules) _ (rw c.in-Refused.is at c.service_time.ensures)

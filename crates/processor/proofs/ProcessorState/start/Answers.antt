@@ -6,7 +6,7 @@ returns-in-Time c =
     let a = c.args in
     λ job z. laws.started a.services.now a.place job a.self _ _ (rw c.in-Time.is at c.service_time.ensures)
 
-pub returns-in-Err : goal.returns-in-Err
-returns-in-Err c =
+pub returns-in-Refused : goal.returns-in-Refused
+returns-in-Refused c =
     let a = c.args in
-    λ job z. laws.not-started a.services.now a.place job a.self _ (rw c.in-Err.is at c.service_time.ensures) z
+    λ job z. laws.not-started a.services.now a.place job a.self _ (rw c.in-Refused.is at c.service_time.ensures) z
