@@ -1,5 +1,5 @@
 -- Messages parked one coupling at a time are the rules' `park`; and one that is parked in a row's words is parked in the world. Assumes nothing.
-use Rattle.std.specs.Prelude.{Err, Ok, Option, Result, tt, ⊤}
+use Rattle.std.specs.Prelude.{Err, Ok, Option, Result, ⊤}
 use Prim.Native.Nat.{ℕ, ◌-◌, ◌^◌, ◌≤◌, ◌<◌}
 use mathlib.Core.Path.{◌≡◌, refl, sym, ap, subst, subst₂, ◌∙◌}
 use mathlib.Core.Logic.{inr}

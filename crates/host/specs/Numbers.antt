@@ -1,5 +1,5 @@
 -- What the C calls return and write: 01's numbers for each answer. Definitions only. Assumes nothing.
-use Rattle.std.specs.Prelude.{ℕ, ◌/◌, List, length, set, Float, Err, Ok, Result, tt, ⊤, None, Some}
+use Rattle.std.specs.Prelude.{ℕ, ◌/◌, List, length, set, Float, Err, Ok, Result, ⊤, None, Some}
 use Rattle.rules.specs.declared.Refusal.{Refusal}
 use Rattle.std.specs.Float.{binary64}
 use Rattle.std.specs.Float.Ieee.{to_bits}

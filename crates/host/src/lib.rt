@@ -16,7 +16,7 @@ ghost use Rattle.host.specs.Numbers.{answer_number, number_of, end_number, end_w
 
 use asking::Status;
 use engine::{End, Report};
-use rules::{BatcherPhase, Message, ProcessorPhase};
+use rules::{BatcherPhase, Message, ProcessorPhase, Refusal};
 use table::Verdict;
 use trace_files::{Read, Written};
 

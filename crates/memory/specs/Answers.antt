@@ -1,5 +1,5 @@
 -- What an atom's event in place answers, by what its model answers; and a message put out, in one word. Definitions only. Assumes nothing.
-use Rattle.std.specs.Prelude.{ℕ, ◌+◌, ◌*◌, Err, Ok, Result, tt, ⊤}
+use Rattle.std.specs.Prelude.{ℕ, ◌+◌, ◌*◌, Err, Ok, Result, ⊤}
 use Rattle.rules.specs.declared.Refusal.{Refusal}
 use Rattle.events.specs.declared.Taken.{Taken}
 use Rattle.events.specs.declared.Taken.TheVariants as taken

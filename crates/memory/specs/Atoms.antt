@@ -1,5 +1,5 @@
 -- An atom's event on its state and the place in the service list, for each kind alike; and what an answer in place says of it. Definitions only. Assumes nothing.
-use Rattle.std.specs.Prelude.{ℕ, ◌≤◌, ◌≡◌, List, [], map, Float, Err, Ok, Result, tt, ⊤}
+use Rattle.std.specs.Prelude.{ℕ, ◌≤◌, ◌≡◌, List, [], map, Float, Err, Ok, Result, ⊤}
 use Rattle.rules.specs.declared.Refusal.{Refusal}
 use Rattle.rules.specs.Base.{Outcome, refused, done, ◌>>=◌}
 use Rattle.rules.specs.Sizes.{most_jobs}

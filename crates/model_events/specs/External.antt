@@ -1,5 +1,5 @@
 -- A Coupled's external event: along its external input couplings, by their places in the table. Assumes nothing.
-use Rattle.std.specs.Prelude.{ℕ, suc, ◌≡◌, refl, length, eqb, Float, Err, Ok, Result, tt, ⊤}
+use Rattle.std.specs.Prelude.{ℕ, suc, ◌≡◌, refl, length, eqb, Float, Err, Ok, Result, ⊤}
 use Rattle.rules.specs.declared.Refusal.{Refusal}
 use Rattle.std.proofs.Common.{sym, ◌∙◌}
 use Rattle.std.proofs.Math.Path.{ap}

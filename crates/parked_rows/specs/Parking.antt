@@ -1,5 +1,5 @@
 -- A message parked in a Coupled's list, in place. Definitions only. Assumes nothing.
-use Rattle.std.specs.Prelude.{ℕ, ◌≡◌, List, [], ◌∷◌, ◌++◌, Err, Ok, Result, tt, ⊤}
+use Rattle.std.specs.Prelude.{ℕ, ◌≡◌, List, [], ◌∷◌, ◌++◌, Err, Ok, Result, ⊤}
 use Rattle.rules.specs.declared.Refusal.{Refusal}
 use Rattle.rules.specs.declared.Refusal.TheVariants.{NoMessageRoom}
 use Rattle.rules.specs.Base.{Outcome, refused, done, at_most}

@@ -1,5 +1,5 @@
 -- From what the processor's and the batcher's rules answer, and from what is written, to what an event in place says of the rules' outcome. Assumes nothing.
-use Rattle.std.specs.Prelude.{if◌then◌else◌, Err, Ok, Result, tt}
+use Rattle.std.specs.Prelude.{if◌then◌else◌, Err, Ok, Result}
 use Prim.Native.Nat.{ℕ, ◌+◌, ◌≤◌}
 use mathlib.Core.Path.{◌≡◌, refl, ap, ◌∙◌}
 use mathlib.Core.Bool.{not}

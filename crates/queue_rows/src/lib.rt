@@ -1,7 +1,7 @@
 // The processor's and the batcher's events in place: the row's state is read from its words, and written there. Layout: docs/LAYOUT.md.
 #![tactic(auto)]
 
-ghost use Rattle.std.specs.Prelude.{◌≡◌, List, ℕ, ◌+◌, ◌≤◌, length, take, drop, T, Float, Ok, tt};
+ghost use Rattle.std.specs.Prelude.{◌≡◌, List, ℕ, ◌+◌, ◌≤◌, length, take, drop, T, Float, Ok};
 ghost use Rattle.std.specs.Float.{binary64};
 ghost use Rattle.std.specs.Float.Ieee.{of_bits};
 ghost use Rattle.times.specs.Time.{is_timer};
@@ -19,7 +19,7 @@ ghost use Rattle.queue_rows.specs.Rows.{processor_at, batcher_at, processor_head
 use batcher::BatcherState;
 use events::Taken;
 use processor::ProcessorState;
-use rules::{Batcher, BatcherPhase, Processor, ProcessorPhase};
+use rules::{Batcher, BatcherPhase, Processor, ProcessorPhase, Refusal};
 
 // What of a row's state stands in its head, and the place in the service list.
 #[derive(Clone, Copy)]
@@ -187,7 +187,13 @@ fn put_out(mem: &mut [u64], begin: usize, gone: u64, port: u16, at: usize)
 }
 
 // What came of an external event is written, and nothing where it is refused.
-fn write_taken(mem: &mut [u64], row: usize, next: Head, taken: Taken, content: u32) -> Result<(), Refusal>
+fn write_taken(
+    mem: &mut [u64],
+    row: usize,
+    next: Head,
+    taken: Taken,
+    content: u32,
+) -> Result<(), Refusal>
     requires { Queued (begin_in mem.old row) mem.old row × (length (queue_after taken (jobs_at (begin_in mem.old row) mem.old row) content) ≡ next.held) × (next.held ≤ 64) }
     ensures answers { result ≡ answer_of taken }
     ensures writes { answer_of taken ≡ Ok tt → Written (begin_in mem.old row) row next (queue_after taken (jobs_at (begin_in mem.old row) mem.old row) content) mem.new }
@@ -206,7 +212,14 @@ fn write_taken(mem: &mut [u64], row: usize, next: Head, taken: Taken, content: u
 }
 
 // What came of an internal event is written, and nothing where it is refused.
-fn write_gone(mem: &mut [u64], row: usize, next: Head, gone: Result<u64, Refusal>, port: u16, at: usize) -> Result<usize, Refusal>
+fn write_gone(
+    mem: &mut [u64],
+    row: usize,
+    next: Head,
+    gone: Result<u64, Refusal>,
+    port: u16,
+    at: usize,
+) -> Result<usize, Refusal>
     requires { Queued (begin_in mem.old row) mem.old row × (begin_in mem.old row + 64 ≤ at) × (at + 64 ≤ length mem.old) × (count_of gone ≤ length (jobs_at (begin_in mem.old row) mem.old row)) × (length (drop (count_of gone) (jobs_at (begin_in mem.old row) mem.old row)) ≡ next.held) }
     ensures answers { result ≡ put_of gone }
     ensures writes { (n : ℕ) → gone ≡ Ok n → Wrote n at port row (begin_in mem.old row) next (jobs_at (begin_in mem.old row) mem.old row) mem.new }
@@ -267,7 +280,12 @@ pub fn processor_internal(
 }
 
 // A job comes: the batcher's rule, done in the row's words. The port isn't looked at.
-pub fn batcher_external(mem: &mut [u64], row: usize, model: Batcher, content: u32) -> Result<(), Refusal>
+pub fn batcher_external(
+    mem: &mut [u64],
+    row: usize,
+    model: Batcher,
+    content: u32,
+) -> Result<(), Refusal>
     requires { Row (Table.batcher model) (begin_in mem.old row) mem.old row }
     ensures takes { (services : List Float) (clock : Float) (port : ℕ) → Took result (Table.batcher model) (begin_in mem.old row) row mem.new (atom_external (Table.batcher model) services clock port content (state_in (Table.batcher model) (begin_in mem.old row) mem.old row) (place_in mem.old)) }
     ensures owns { Own row (begin_in mem.old row) 64 0 0 mem.old mem.new }
@@ -281,7 +299,12 @@ pub fn batcher_external(mem: &mut [u64], row: usize, model: Batcher, content: u3
 }
 
 // Its timer has run out: the batcher's rule, done in the row's words. What it puts out stands from `at` on.
-pub fn batcher_internal(mem: &mut [u64], row: usize, model: Batcher, at: usize) -> Result<usize, Refusal>
+pub fn batcher_internal(
+    mem: &mut [u64],
+    row: usize,
+    model: Batcher,
+    at: usize,
+) -> Result<usize, Refusal>
     requires { Row (Table.batcher model) (begin_in mem.old row) mem.old row × (begin_in mem.old row + 64 ≤ at) × (at + 64 ≤ length mem.old) }
     ensures gives { (services : List Float) → Gave result at (Table.batcher model) (begin_in mem.old row) row mem.new (atom_internal (Table.batcher model) services (state_in (Table.batcher model) (begin_in mem.old row) mem.old row) (place_in mem.old)) }
     ensures owns { Own row (begin_in mem.old row) 64 at (at + 64) mem.old mem.new }

@@ -11,6 +11,7 @@ use Rattle.words.specs.SearchLaws.{cells-inside, next-row-first, first-ext}
 use Rattle.table.specs.Readers.{row_of}
 use Rattle.table.specs.Passed.{connector_of}
 use Rattle.table.specs.Rows.{row-cell}
+use Rattle.selection.specs.declared.Target.{Target}
 use Rattle.selection.specs.Selecting.{rows_in, couplings_in, comes_from, connects, lead_of, lead_at, seen_of, is_some, chosen_of, is_input, is_output, is_internal, is_component, is_free, has_id, target_in}
 
 -- ---- what the private functions make and test

@@ -11,7 +11,7 @@ ghost use Rattle.simulation.specs.Values.{posted_words};
 use crate::{Result<f64, Refusal>, Result<usize, Refusal>};
 use asking::Status;
 use engine::Report;
-use rules::Message;
+use rules::{Message, Refusal};
 
 #[derive(Clone, Copy)]
 pub struct Simulation {

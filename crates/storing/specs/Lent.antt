@@ -1,5 +1,5 @@
 -- The calls on a lent state, and the lent memory after them, for every buffer. Definitions only. Assumes nothing.
-use Rattle.std.specs.Prelude.{ℕ, Bool, List, length, leb, if◌then◌else◌, Err, Ok, Result, tt, ⊤}
+use Rattle.std.specs.Prelude.{ℕ, Bool, List, length, leb, if◌then◌else◌, Err, Ok, Result, ⊤}
 use Rattle.rules.specs.declared.Refusal.{Refusal}
 use Rattle.rules.specs.declared.Refusal.TheVariants.{BadState}
 use Rattle.rules.specs.declared.Message.{Message}

@@ -1,5 +1,5 @@
 -- A loop of events in place: where it stands, what each turn of it does, and what it has done at its end. Assumes nothing.
-use Rattle.std.specs.Prelude.{ℕ, ◌+◌, ◌-◌, ◌≤◌, ◌<◌, ◌≡◌, refl, Bool, false, List, Err, None, Ok, Result, Some, tt, ⊤}
+use Rattle.std.specs.Prelude.{ℕ, ◌+◌, ◌-◌, ◌≤◌, ◌<◌, ◌≡◌, refl, Bool, false, List, Err, None, Ok, Result, Some, ⊤}
 use Rattle.std.proofs.Common.{◌∙◌}
 use Rattle.rules.specs.declared.Refusal.{Refusal}
 use Rattle.rules.specs.Base.{Outcome, refused, done, each, those, from}

@@ -1,5 +1,5 @@
 -- The laws of messages that are taken: where they stand nothing changes, their words are narrow, and message by message they are all. Assumes nothing.
-use Rattle.std.specs.Prelude.{ℕ, zero, suc, ◌+◌, ◌*◌, ◌-◌, ◌≤◌, ◌<◌, ◌≡◌, refl, Bool, true, false, List, [], ◌∷◌, map, length, T, eqb, Float, if◌then◌else◌, Ok, Result, Some, tt, ⊤}
+use Rattle.std.specs.Prelude.{ℕ, zero, suc, ◌+◌, ◌*◌, ◌-◌, ◌≤◌, ◌<◌, ◌≡◌, refl, Bool, true, false, List, [], ◌∷◌, map, length, T, eqb, Float, if◌then◌else◌, Ok, Result, Some, ⊤}
 use Rattle.rules.specs.declared.Refusal.{Refusal}
 use Rattle.std.proofs.Common.{sym, ap, subst, ◌∙◌, inr, arith, ltb-false, eq-eqb, ne_eqb, ltb→lt}
 use Rattle.std.proofs.lemmas.Bool.{eqb-false}

@@ -13,6 +13,7 @@ ghost use Rattle.model_events.specs.Events.{Scene, Event};
 ghost use Rattle.sweeps.specs.Skips.{stop_from};
 ghost use Rattle.taking.specs.Taking.{takes_one, takes_all, is_for, is_addressed, Active};
 
+use rules::Refusal;
 
 // The first message from the k-th on that is for this id; past the last if there is none.
 fn next_for(mem: &[u64], active: usize, k: usize, count: usize, id: u64) -> usize

@@ -13,6 +13,7 @@ ghost use Rattle.views.specs.World.{begin_of, Frame, Does};
 ghost use Rattle.model_events.specs.Events.{Event};
 ghost use Rattle.unparking.specs.Unparking.{is_for, handed, takes};
 
+use rules::Refusal;
 
 // Each component in order takes the messages parked for it. The list itself is left as it is.
 pub fn unpark(

@@ -1,5 +1,5 @@
 -- From an atom's event on its row's words to the rules' event of that row on the whole world. Assumes nothing.
-use Rattle.std.specs.Prelude.{ℕ, suc, ◌+◌, ◌≤◌, ◌<◌, ◌≡◌, refl, false, List, [], ◌∷◌, ◌++◌, length, T, Float, Err, Ok, Result, tt, ⊤}
+use Rattle.std.specs.Prelude.{ℕ, suc, ◌+◌, ◌≤◌, ◌<◌, ◌≡◌, refl, false, List, [], ◌∷◌, ◌++◌, length, T, Float, Err, Ok, Result, ⊤}
 use Rattle.rules.specs.declared.Refusal.{Refusal}
 use Rattle.std.proofs.Common.{sym, subst₂, ◌∙◌, inl, inr, true≢false, arith}
 use Rattle.std.proofs.Math.Path.{ap}

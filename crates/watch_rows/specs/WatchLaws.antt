@@ -1,5 +1,5 @@
 -- A stopwatch's events in place are the rules' events on the row's state. Assumes nothing.
-use Rattle.std.specs.Prelude.{ℕ, ◌+◌, ◌^◌, ◌≤◌, ◌<◌, ◌≡◌, refl, Bool, List, [], ◌∷◌, map, length, set, take, T, eqb, ltb, Float, if◌then◌else◌, Err, Ok, tt}
+use Rattle.std.specs.Prelude.{ℕ, ◌+◌, ◌^◌, ◌≤◌, ◌<◌, ◌≡◌, refl, Bool, List, [], ◌∷◌, map, length, set, take, T, eqb, ltb, Float, if◌then◌else◌, Err, Ok}
 use Rattle.std.proofs.Common.{arith, sym, ap, ◌∙◌, subst, inl, inr, length-set, drop-cons, get_or-set_same, get_or-set_other, ltb→lt}
 use Rattle.std.proofs.Math.Bool.{true, false}
 use Rattle.std.specs.Float.{binary64}

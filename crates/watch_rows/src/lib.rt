@@ -12,7 +12,7 @@ ghost use Rattle.memory.specs.Atoms.{atom_external, atom_internal, Took, Gave};
 ghost use Rattle.memory.specs.Answers.{out_word};
 ghost use Rattle.watch_rows.specs.Places.{loaded, stored, external_at, internal_at};
 
-use rules::{Stopwatch, StopwatchPhase};
+use rules::{Refusal, Stopwatch, StopwatchPhase};
 use stopwatch::{Named, StopwatchGone, StopwatchState, StopwatchTaken};
 
 fn load_stopwatch(mem: &[u64], row: usize) -> StopwatchState
@@ -112,7 +112,12 @@ pub fn stopwatch_external(
 }
 
 // Its timer has run out: the stopwatch's rule, done in the row's words. What it puts out stands at `at`.
-pub fn stopwatch_internal(mem: &mut [u64], row: usize, model: Stopwatch, at: usize) -> Result<usize, Refusal>
+pub fn stopwatch_internal(
+    mem: &mut [u64],
+    row: usize,
+    model: Stopwatch,
+    at: usize,
+) -> Result<usize, Refusal>
     requires { Row (Table.stopwatch model) (begin_in mem.old row) mem.old row × (begin_in mem.old row + 192 ≤ at) × (at + 64 ≤ length mem.old) }
     ensures gives { (services : List Float) → Gave result at (Table.stopwatch model) (begin_in mem.old row) row mem.new (atom_internal (Table.stopwatch model) services (state_in (Table.stopwatch model) (begin_in mem.old row) mem.old row) (place_in mem.old)) }
     ensures owns { Own row (begin_in mem.old row) 192 at (at + 64) mem.old mem.new }

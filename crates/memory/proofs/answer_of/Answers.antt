@@ -1,5 +1,5 @@
 -- `memory::answer_of` meets its contract. Assumes nothing.
 use Rattle.memory.proofs.answer_of.Goals as goal
 
-pub returns-in-Err : goal.returns-in-Err
-returns-in-Err c = rw c.in-Err.is
+pub returns-in-Refused : goal.returns-in-Refused
+returns-in-Refused c = rw c.in-Refused.is

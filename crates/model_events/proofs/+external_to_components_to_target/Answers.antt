@@ -1,5 +1,5 @@
 -- `model_events::external`, `to_components` and `to_target` meet their contracts. The loop: what is left of the couplings, from the words as they stand, is the whole from the words at first. Assumes nothing.
-use Rattle.std.specs.Prelude.{Err, Ok, Option, Result, tt, ⊤}
+use Rattle.std.specs.Prelude.{Err, Ok, Option, Result, ⊤}
 use Rattle.rules.specs.declared.Refusal.{Refusal}
 use mathlib.Core.Path.{◌≡◌, refl, sym, ap, subst, ◌∙◌}
 use native.Mathlib.Omega.{arith}

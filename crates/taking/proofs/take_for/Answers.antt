@@ -1,5 +1,5 @@
 -- `taking::take_for` meets its contract. The loop: what is left of the messages, from the words as they stand, is the whole from the words at first; the messages' own words stay. Assumes nothing.
-use Rattle.std.specs.Prelude.{Err, Ok, Result, tt, ⊤}
+use Rattle.std.specs.Prelude.{Err, Ok, Result, ⊤}
 use Rattle.rules.specs.declared.Refusal.{Refusal}
 use Prim.Native.Nat.{ℕ, ◌+◌}
 use mathlib.Core.Path.{refl, sym, subst, ◌∙◌}

@@ -1,5 +1,5 @@
 -- `simulation::value::Simulation::post` meets its contract. Assumes nothing.
-use Rattle.std.specs.Prelude.{Ok, tt}
+use Rattle.std.specs.Prelude.{Ok}
 use mathlib.Core.Path.{◌≡◌, sym, ap, ◌∙◌}
 use Rattle.rules.specs.Base.{Outcome}
 use Rattle.rules.specs.Simulation.{Simulation}
