@@ -5,46 +5,46 @@
 ghost use Rattle.std.specs.Prelude.{◌≡◌};
 ghost use Rattle.rules.specs.Names as Names;
 
-// 01, "Refusal numbers", and 14 of 02's A1, in the order of their numbers.
-#[derive(Clone, Copy)]
+// 01, "Refusal numbers", and 14 of 02's A1: each with its number.
+#[derive(Clone, Copy, Debug, PartialEq, Eq)]
 pub enum Refusal {
-    TooLarge,
-    BadRow,
-    BadCoupling,
-    ModelNotFound,
-    InvalidMessage,
-    InvalidModelState,
-    NoQueueRoom,
-    NoMessageRoom,
-    NoServiceTime,
-    BadTime,
-    ClockOverflow,
-    Idle,
-    NoOutRoom,
-    BadBlock,
-    BadState,
+    TooLarge = 1,
+    BadRow = 2,
+    BadCoupling = 3,
+    ModelNotFound = 4,
+    InvalidMessage = 5,
+    InvalidModelState = 6,
+    NoQueueRoom = 7,
+    NoMessageRoom = 8,
+    NoServiceTime = 9,
+    BadTime = 10,
+    ClockOverflow = 11,
+    Idle = 12,
+    NoOutRoom = 13,
+    BadBlock = 14,
+    BadState = 20,
 }
 
-#[derive(Clone, Copy)]
+#[derive(Clone, Copy, Debug, PartialEq, Eq)]
 pub enum ProcessorPhase {
     Passive,
     Active,
 }
 
-#[derive(Clone, Copy)]
+#[derive(Clone, Copy, Debug, PartialEq, Eq)]
 pub enum BatcherPhase {
     Passive,
     Batching,
     Release,
 }
 
-#[derive(Clone, Copy)]
+#[derive(Clone, Copy, Debug, PartialEq, Eq)]
 pub enum StopwatchPhase {
     Passive,
     JobFetch,
 }
 
-#[derive(Clone, Copy)]
+#[derive(Clone, Copy, Debug, PartialEq, Eq)]
 pub enum Metric {
     Minimum,
     Maximum,
@@ -93,21 +93,5 @@ pub struct Message {
 pub fn number(refusal: Refusal) -> u32
     ensures { result ≡ Names.number refusal }
 {
-    match refusal {
-        Refusal::TooLarge => 1,
-        Refusal::BadRow => 2,
-        Refusal::BadCoupling => 3,
-        Refusal::ModelNotFound => 4,
-        Refusal::InvalidMessage => 5,
-        Refusal::InvalidModelState => 6,
-        Refusal::NoQueueRoom => 7,
-        Refusal::NoMessageRoom => 8,
-        Refusal::NoServiceTime => 9,
-        Refusal::BadTime => 10,
-        Refusal::ClockOverflow => 11,
-        Refusal::Idle => 12,
-        Refusal::NoOutRoom => 13,
-        Refusal::BadBlock => 14,
-        Refusal::BadState => 20,
-    }
+    refusal as u32
 }
