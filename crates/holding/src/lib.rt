@@ -45,10 +45,8 @@ fn is_clear(places: &[u64]) -> bool
     ensures { result ≡ every (λ w. eqb w 0) places.now }
 {
     let mut joined: u64 = 0;
-    let mut k = 0;
-    while k < places.len() {
-        joined |= places[k];
-        k += 1;
+    for place in places {
+        joined |= *place;
     }
     joined == 0
 }
@@ -71,12 +69,10 @@ fn rest_clear(own: &[u64], held: usize) -> bool
 fn are_contents(jobs: &[u64]) -> bool
     ensures { result ≡ every is_content jobs.now }
 {
-    let mut k = 0;
-    while k < jobs.len() {
-        if 0xFFFF_FFFF < jobs[k] {
+    for job in jobs {
+        if 0xFFFF_FFFF < *job {
             return false;
         }
-        k += 1;
     }
     true
 }
@@ -246,13 +242,8 @@ fn rows_end(state: &[u64], mem: &[u64]) -> Option<usize>
 {
     let rows = lookup::row_count(state);
     let mut begin = rows * 4 + 3;
-    let mut row = 0;
-    while row < rows {
-        match row_end(state, mem, row, begin) {
-            Some(end) => begin = end,
-            None => return None,
-        }
-        row += 1;
+    for row in 0..rows {
+        begin = row_end(state, mem, row, begin)?;
     }
     Some(begin)
 }
@@ -285,12 +276,10 @@ fn messages_fit(mem: &[u64], at: usize, count: usize) -> bool
     requires { at + count * 6 ≤ length mem.now }
     ensures { result ≡ every (λ m. hold (message_rules m)) (messages_in at count mem.now) }
 {
-    let mut k = 0;
-    while k < count {
+    for k in 0..count {
         if !message_fits(mem, at, k) {
             return false;
         }
-        k += 1;
     }
     true
 }

@@ -3,17 +3,17 @@ use mathlib.Core.Path.{sym, ◌∙◌}
 use Rattle.rules.specs.Sizes.{is_content}
 use Rattle.marks.specs.SweepLaws.{content-low, content-high}
 use Rattle.holding.specs.RowLaws.{each-is, each_over, each-stops, each_on}
-use borrow.Author.Rules.{rules}
+use native.Mathlib.Omega.{arith}
 use Rattle.holding.proofs.are_contents.Goals as goal
 
-pub loop-k-init : goal.loop-k-init
-loop-k-init c = (search rules, each-is is_content c.args.jobs.now)
+pub loop-job-init : goal.loop-job-init
+loop-job-init c = each-is is_content c.args.jobs.now
 
-pub returns-then-jobs-k-gt4294967295 : goal.returns-then-jobs-k-gt4294967295
-returns-then-jobs-k-gt4294967295 c = sym (each-stops is_content c.args.jobs.now c.loop-k.k c.loop-k-test.true (content-high _ c.if-jobs-k-gt4294967295.true)) ∙ c.loop-k.invariant.1
+pub returns-then-job-gt4294967295 : goal.returns-then-job-gt4294967295
+returns-then-job-gt4294967295 c = sym (each-stops is_content c.args.jobs.now c.loop-job.job-index (omega arith) (content-high _ c.if-job-gt4294967295.true)) ∙ c.loop-job.invariant
 
-pub loop-k-preserved : goal.loop-k-preserved
-loop-k-preserved c = (search rules, sym (each_on is_content c.args.jobs.now c.loop-k.k c.loop-k-test.true (content-low _ c.if-jobs-k-gt4294967295.false)) ∙ c.loop-k.invariant.1)
+pub loop-job-preserved : goal.loop-job-preserved
+loop-job-preserved c = sym (each_on is_content c.args.jobs.now c.loop-job.job-index (omega arith) (content-low _ c.if-job-gt4294967295.false)) ∙ c.loop-job.invariant
 
 pub returns : goal.returns
-returns c = sym (each_over is_content c.args.jobs.now c.loop-k.k c.loop-k-test.false) ∙ c.loop-k.invariant.1
+returns c = sym (each_over is_content c.args.jobs.now c.loop-job.job-index (omega arith)) ∙ c.loop-job.invariant

@@ -7,8 +7,5 @@ use Rattle.rules.specs.Sizes.{is_content}
 use Rattle.holding.specs.RowLaws.{each_from}
 use Rattle.holding.proofs.are_contents.Given as goal
 
-abbrev pub invariant-loop-k : goal.invariant-loop-k
-invariant-loop-k l = (l.k ≤ length l.jobs) × (each_from is_content l.jobs l.k (length l.jobs - l.k) ≡ every is_content l.jobs)
-
-abbrev pub decreases-loop-k : goal.decreases-loop-k
-decreases-loop-k l = length l.jobs - l.k
+abbrev pub invariant-loop-job : goal.invariant-loop-job
+invariant-loop-job l = each_from is_content l.jobs l.job-index (length l.jobs - l.job-index) ≡ every is_content l.jobs

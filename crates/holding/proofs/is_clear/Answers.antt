@@ -3,14 +3,14 @@ use Prim.Native.Nat.{ℕ}
 use mathlib.Core.Path.{sym, ◌∙◌}
 use lib.Dec.{eqb}
 use Rattle.holding.specs.RowLaws.{each-is, joined-over, joined-on}
-use borrow.Author.Rules.{rules}
+use native.Mathlib.Omega.{arith}
 use Rattle.holding.proofs.is_clear.Goals as goal
 
-pub loop-k-init : goal.loop-k-init
-loop-k-init c = (search rules, each-is (λ (w : ℕ). eqb w 0) c.args.places.now)
+pub loop-place-init : goal.loop-place-init
+loop-place-init c = each-is (λ (w : ℕ). eqb w 0) c.args.places.now
 
-pub loop-k-preserved : goal.loop-k-preserved
-loop-k-preserved c = (search rules, sym (joined-on c.args.places.now c.loop-k.joined c.loop-k.k c.loop-k-test.true) ∙ c.loop-k.invariant.1)
+pub loop-place-preserved : goal.loop-place-preserved
+loop-place-preserved c = sym (joined-on c.args.places.now c.loop-place.joined c.loop-place.place-index (omega arith)) ∙ c.loop-place.invariant
 
 pub returns : goal.returns
-returns c = sym (joined-over c.args.places.now c.loop-k.joined c.loop-k.k c.loop-k-test.false) ∙ c.loop-k.invariant.1
+returns c = sym (joined-over c.args.places.now c.loop-place.joined c.loop-place.place-index (omega arith)) ∙ c.loop-place.invariant

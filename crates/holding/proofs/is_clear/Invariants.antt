@@ -7,8 +7,5 @@ use Rattle.rules.specs.Base.{every}
 use Rattle.holding.specs.RowLaws.{joined_from}
 use Rattle.holding.proofs.is_clear.Given as goal
 
-abbrev pub invariant-loop-k : goal.invariant-loop-k
-invariant-loop-k l = (l.k ≤ length l.places) × (joined_from l.places l.joined l.k ≡ every (λ (w : ℕ). eqb w 0) l.places)
-
-abbrev pub decreases-loop-k : goal.decreases-loop-k
-decreases-loop-k l = length l.places - l.k
+abbrev pub invariant-loop-place : goal.invariant-loop-place
+invariant-loop-place l = joined_from l.places l.joined l.place-index ≡ every (λ (w : ℕ). eqb w 0) l.places

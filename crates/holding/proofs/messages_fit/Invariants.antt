@@ -5,7 +5,4 @@ use Rattle.holding.specs.WholeLaws.{messages_from}
 use Rattle.holding.proofs.messages_fit.Given as goal
 
 abbrev pub invariant-loop-k : goal.invariant-loop-k
-invariant-loop-k l = (l.k ≤ l.count) × (messages_from l.at l.mem l.k (l.count - l.k) ≡ messages_from l.at l.mem 0 l.count)
-
-abbrev pub decreases-loop-k : goal.decreases-loop-k
-decreases-loop-k l = l.count - l.k
+invariant-loop-k l = messages_from l.at l.mem l.k (l.count - l.k) ≡ messages_from l.at l.mem 0 l.count

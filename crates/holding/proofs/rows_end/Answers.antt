@@ -21,35 +21,36 @@ pub loop-row-init : goal.loop-row-init
 loop-row-init c =
     let t = table_in c.args.state.now in
     let n = c.row_count-rows.ensures in
-    (search rules, omega arith, begun (rows_from t c.args.mem.now 0) c.row_count-rows.result ∙ ap (rows_from t c.args.mem.now 0) n)
+    (omega arith, begun (rows_from t c.args.mem.now 0) c.row_count-rows.result ∙ ap (rows_from t c.args.mem.now 0) n)
 
 pub row_end-requires : goal.row_end-requires
 row_end-requires c =
     let t = table_in c.args.state.now in
     let n = c.row_count-rows.ensures in
     let l = c.loop-row-test.true in
-    let at = c.loop-row.invariant.1 in
+    let at = c.loop-row.invariant.0 in
     let room = c.requires.1 in
     let b = begin-room t c.args.mem.now c.loop-row.row (omega arith) in
     (c.requires.0, omega arith, omega arith, omega arith)
 
-pub returns-in-None : goal.returns-in-None
-returns-in-None c =
+pub returns-in_err-begin : goal.returns-in_err-begin
+returns-in_err-begin c =
     let a = c.args in
     let t = table_in a.state.now in
-    rows-bad t a.mem.now
-    (sym c.loop-row.invariant.2 ∙ rows-stop t a.mem.now c.loop-row.row c.row_count-rows.result c.loop-row.begin c.loop-row-test.true c.row_count-rows.ensures c.loop-row.invariant.1 (sym c.row_end.ensures ∙ c.in-None.is))
+    c.from_residual.ensures
+    ∙ rows-bad t a.mem.now
+    (sym c.loop-row.invariant.1 ∙ rows-stop t a.mem.now c.loop-row.row c.row_count-rows.result c.loop-row.begin c.loop-row-test.true c.row_count-rows.ensures c.loop-row.invariant.0 (sym c.row_end.ensures ∙ c.in_err-begin.was))
 
 pub loop-row-preserved : goal.loop-row-preserved
 loop-row-preserved c =
     let a = c.args in
     let t = table_in a.state.now in
-    let on = rows_on t a.mem.now c.loop-row.row c.row_count-rows.result c.loop-row.begin c.loop-row-test.true c.row_count-rows.ensures c.loop-row.invariant.1 c.in-Some.end (sym c.row_end.ensures ∙ c.in-Some.is) in
-    (search rules, on.0, sym on.1 ∙ c.loop-row.invariant.2)
+    let on = rows_on t a.mem.now c.loop-row.row c.row_count-rows.result c.loop-row.begin c.loop-row-test.true c.row_count-rows.ensures c.loop-row.invariant.0 c.in_ok-begin.begin (sym c.row_end.ensures ∙ c.in_ok-begin.was) in
+    (on.0, sym on.1 ∙ c.loop-row.invariant.1)
 
 pub returns : goal.returns
 returns c =
     let a = c.args in
     let t = table_in a.state.now in
     let last : c.loop-row.row ≡ c.row_count-rows.result = omega (arith, c.loop-row.invariant.0, c.loop-row-test.false) in
-    rows-good t a.mem.now c.loop-row.begin (c.loop-row.invariant.1 ∙ ap (begin_of t) (last ∙ c.row_count-rows.ensures)) (sym c.loop-row.invariant.2 ∙ rows-over t a.mem.now c.loop-row.row c.row_count-rows.result c.loop-row-test.false)
+    rows-good t a.mem.now c.loop-row.begin (c.loop-row.invariant.0 ∙ ap (begin_of t) (last ∙ c.row_count-rows.ensures)) (sym c.loop-row.invariant.1 ∙ rows-over t a.mem.now c.loop-row.row c.row_count-rows.result c.loop-row-test.false)

@@ -7,7 +7,4 @@ use Rattle.holding.specs.Fitting.{rows_from, rows_stand}
 use Rattle.holding.proofs.rows_end.Given as goal
 
 abbrev pub invariant-loop-row : goal.invariant-loop-row
-invariant-loop-row l = (l.row ≤ l.rows) × (l.begin ≡ begin_of (table_in l.state) l.row) × (rows_from (table_in l.state) l.mem l.row (l.rows - l.row) ≡ rows_stand (table_in l.state) l.mem)
-
-abbrev pub decreases-loop-row : goal.decreases-loop-row
-decreases-loop-row l = l.rows - l.row
+invariant-loop-row l = (l.begin ≡ begin_of (table_in l.state) l.row) × (rows_from (table_in l.state) l.mem l.row (l.rows - l.row) ≡ rows_stand (table_in l.state) l.mem)
