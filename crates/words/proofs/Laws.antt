@@ -1,60 +1,31 @@
--- The steps of the loops that move words up and clear them, and that the two together are `moved_up`. Assumes nothing.
-use Prim.Native.Nat.{ℕ, zero, suc, ◌+◌, ◌-◌, ◌≤◌, ◌<◌}
+-- What is copied to the front and what is cleared are together `moved_up`. Assumes nothing.
+use Prim.Native.Nat.{ℕ, zero, suc, ◌+◌, ◌-◌, ◌≤◌}
 use mathlib.Core.Path.{◌≡◌, refl, sym, ap, ◌∙◌}
-use mathlib.Core.List.{List, [], ◌∷◌, ◌++◌, append-nil, append_assoc, map-append}
+use mathlib.Core.List.{List, [], ◌∷◌, ◌++◌, append_assoc}
 use native.Mathlib.Omega.{arith}
-use native.Mathlib.Nat.{zero-sub, zero-add, add_comm, sub-zero, suc-sub-suc}
-use native.Mathlib.Numerals.{add-one}
-use lib.ListN.{length, replicate, get_or, set, take, drop, length-append, length-map, length-take, length-drop, take-append-drop, drop_of_length-le}
-use lib.Seq.{take_at, drop_at, take-length, drop-length, drop-drop, paste-suc, length-take-le, length-slice, slice_empty, take-nil, take_all, take-suc, drop-cons, drop-append-le, get_or-append-add, get_or-drop, set_at, append_snoc}
+use native.Mathlib.Nat.{zero-sub, zero-add, sub-zero, suc-sub-suc}
+use lib.ListN.{length, replicate, take, drop, length-append, length-map, length-take, length-drop, drop_of_length-le}
+use lib.Seq.{take_at, drop_at, take-length, drop-length, drop-drop, length-take-le, length-slice, take-nil, take_all}
 use Rattle.words.specs.Queue.{cleared, moved_up}
-use Rattle.words.specs.Search.{lesser_of}
-use Rattle.words.specs.SearchLaws.{lesser-cases}
+use Rattle.std.specs.List.{copy_within}
+use Rattle.std.proofs.Common.{inl, inr}
+use Rattle.std.proofs.lemmas.Bool.{cases_lt}
+use Prim.Native.Nat.{min}
+use borrow.Rule.Slice.PartMut.{put_mid}
+use Rattle.std.proofs.lemmas.Slice.{put_mid-paste}
+use Rattle.std.proofs.lemmas.List.Edits.{paste_all}
+use Rattle.std.proofs.Math.Nat.{min-eq_left, min-eq_right}
 
--- ---- the words from `gone` on, of which `place` have moved to the front
-abbrev pub moved : ℕ → ℕ → List ℕ → List ℕ
-moved gone place l = take place (drop gone l) ++ drop place l
-
-module _ (gone place : ℕ) (l : List ℕ) (h : place + gone < length l) where
-  -- the word that moves next is where it was
-  pub moved-next : get_or (moved gone place l) (place + gone) 0 ≡ get_or (drop gone l) place 0
-  moved-next =
-      let front : length (take place (drop gone l)) ≡ place = length-take-le place (drop gone l) (rw (length-drop gone l) (omega arith)) in
-      let at : place + gone ≡ length (take place (drop gone l)) + gone = omega arith in
-      rw (at, get_or-append-add, get_or-drop place l gone 0, get_or-drop gone l place 0, add_comm place gone)
-
-  -- one word more
-  pub moved_more : set (moved gone place l) place (get_or (moved gone place l) (place + gone) 0) ≡ moved gone (place + 1) l
-  moved_more =
-      let in-l : 0 + place < length l = omega arith in
-      let in_rest : place < length (drop gone l) = rw (length-drop gone l) (omega arith) in
-      rw (moved-next, add-one) (simp zero-add at (paste-suc l 0 (drop gone l) place 0 in-l in_rest))
-
+-- ---- the words from `gone` to before `end` are copied to the front
 drop-take : (gone end : ℕ) (l : List ℕ) → take (end - gone) (drop gone l) ≡ drop gone (take end l)
 drop-take zero end l = rw sub-zero
 drop-take (suc gone) zero l = rw zero-sub
 drop-take (suc gone) (suc end) [] = take-nil (suc end - suc gone)
 drop-take (suc gone) (suc end) (x ∷ xs) = rw suc-sub-suc (drop-take gone end xs)
 
--- all have moved
-pub moved_all : (gone end : ℕ) (l : List ℕ) → moved gone (end - gone) l ≡ drop gone (take end l) ++ drop (end - gone) l
-moved_all gone end l = rw (drop-take gone end l)
-
--- ---- the places from `start` to before `place` are cleared
+-- the places from `start` to before `place` are cleared
 abbrev pub cleared_to : ℕ → ℕ → List ℕ → List ℕ
 cleared_to start place l = take start l ++ cleared (drop start (take place l)) ++ drop place l
-
-pub cleared-none : (start : ℕ) (l : List ℕ) → l ≡ cleared_to start start l
-cleared-none start l = rw (slice_empty start l, append-nil, take-append-drop)
-
-module _ (start place : ℕ) (l : List ℕ) (from : start ≤ place) (h : place < length l) where
-  -- one place more
-  pub cleared_more : set (cleared_to start place l) place 0 ≡ cleared_to start (place + 1) l
-  cleared_more =
-      let front : length (take start l ++ cleared (drop start (take place l))) ≡ place =
-      simp (length-append, length-map, length-take, length-drop) (omega arith) in
-      let taken : start ≤ length (take place l) = simp length-take (omega arith) in
-      rw (add-one, drop-cons l place 0 h, set_at {A = ℕ} _ _ _ 0 place front, take-suc l place 0 h, drop-append-le start (take place l) _ taken, map-append, ← append_assoc, append_snoc)
 
 -- ---- the two together
 cleared-zeros : (l : List ℕ) → cleared l ≡ replicate (length l) 0
@@ -84,16 +55,36 @@ module _ (out end : ℕ) (l : List ℕ) (some : out ≤ end) (fits : end ≤ len
       let beyond : drop end m ≡ drop end l = drop_more (end - out) end m l fewer (drop_at (drop out (take end l)) (drop (end - out) l) (end - out) front) in
       rw (take_at (drop out (take end l)) (drop (end - out) l) (end - out) front, beyond, cleared-same (drop (end - out) (take end m)) (take out (take end l)) lengths)
 
-take-lesser : (n : ℕ) (l : List ℕ) → take (lesser_of n (length l)) l ≡ take n l
-take-lesser n l = lesser-cases (λ k. take k l ≡ take n l) n (length l) (λ _. refl) (λ h. take-length l ∙ sym (take_all n l h))
+min-cases : (P : ℕ → Type 0) (a b : ℕ) → (a ≤ b → P a) → (b ≤ a → P b) → P (min a b)
+min-cases P a b p q = elim (cases_lt a b) [ inl h ↦ let l : a ≤ b = omega arith in rw (min-eq_left l) (p l) | inr h ↦ rw (min-eq_right h) (q h) ]
 
-drop-lesser : (n : ℕ) (l : List ℕ) → drop (lesser_of n (length l)) l ≡ drop n l
-drop-lesser n l = lesser-cases (λ k. drop k l ≡ drop n l) n (length l) (λ _. refl) (λ h. drop-length l ∙ sym (drop_of_length-le l h))
+take-min : (n : ℕ) (l : List ℕ) → take (min n (length l)) l ≡ take n l
+take-min n l = min-cases (λ k. take k l ≡ take n l) n (length l) (λ _. refl) (λ h. take-length l ∙ sym (take_all n l h))
 
-length-lesser : (n : ℕ) (l : List ℕ) → length (take n l) ≡ lesser_of n (length l)
-length-lesser n l = lesser-cases (λ k. length (take n l) ≡ k) n (length l) (λ h. length-take-le n l h) (λ h. ap length (take_all n l h))
+drop-min : (n : ℕ) (l : List ℕ) → drop (min n (length l)) l ≡ drop n l
+drop-min n l = min-cases (λ k. drop k l ≡ drop n l) n (length l) (λ _. refl) (λ h. drop-length l ∙ sym (drop_of_length-le l h))
 
 -- what is asked beyond the words, or beyond the queue, changes nothing
-pub moved-within : (gone held : ℕ) (l : List ℕ) → moved_up (lesser_of gone (lesser_of held (length l))) (lesser_of held (length l)) l ≡ moved_up gone held l
+pub moved-within : (gone held : ℕ) (l : List ℕ) → moved_up (min gone (min held (length l))) (min held (length l)) l ≡ moved_up gone held l
 unfolding moved_up
-moved-within gone held l = rw (take-lesser held l, drop-lesser held l, ← length-lesser held l, take-lesser gone (take held l), drop-lesser gone (take held l))
+moved-within gone held l = rw (take-min held l, drop-min held l, ← length-take held l, take-min gone (take held l), drop-min gone (take held l))
+
+-- ---- what the two calls leave
+module _ (out end : ℕ) (l m left : List ℕ) (some : out ≤ end) (fits : end ≤ length l) where
+  pub moved_up-says : m ≡ copy_within l out end 0 → left ≡ replicate (length (take (end - (end - out)) (drop (end - out) m))) 0 → put_mid (end - out) (end - (end - out)) m left ≡ moved_up out end l
+  moved_up-says moved c =
+      let start : ℕ = end - out in
+      let front : m ≡ drop out (take end l) ++ drop start l = moved ∙ rw (drop-take out end l, zero-add) in
+      let n : ℕ = end - start in
+      let whole : end ≤ length m = omega (arith, simp (length-append, length-drop, length-take) at (ap length front)) in
+      let long : length (drop start (take end m)) ≡ n = length-slice start end m whole in
+      let room : n ≤ length (drop start m) = omega (arith, length-drop start m) in
+      let same : left ≡ cleared (drop start (take end m)) = c ∙ ap (λ k. replicate k 0) (length-take-le n (drop start m) room) ∙ sym (cleared-zeros (drop start (take end m)) ∙ ap (λ k. replicate k 0) long) in
+      let counted : n ≡ length (cleared (drop start (take end m))) = sym (length-map (drop start (take end m)) (λ w. 0) ∙ long) in
+      let ends : start + n ≡ end = omega arith in
+      put_mid-paste start n m left (cleared (drop start (take end m))) n same refl counted
+      ∙ paste_all m start (cleared (drop start (take end m))) n counted
+      ∙ sym (append_assoc (take start m) (cleared (drop start (take end m))) (drop (start + n) m))
+      ∙ ap (λ k. take start m ++ cleared (drop start (take end m)) ++ drop k m) ends
+      ∙ ap (cleared_to start end) front
+      ∙ shifted-cleared out end l some fits

@@ -1,10 +1,14 @@
 -- The laws of the search for a row: its steps, the bounds of a row's cells, and what the first is among those that pass the test. Assumes nothing.
-use Rattle.std.specs.Prelude.{ℕ, zero, suc, ◌+◌, ◌*◌, ◌-◌, ◌/◌, ◌≤◌, ◌<◌, ◌≡◌, refl, Bool, true, false, ◌&&◌, List, [], ◌∷◌, length, ltb, if◌then◌else◌, None, Option, Some}
-use Rattle.std.proofs.Common.{sym, ap, ◌∙◌, arith, div-mul-le_self, mul-le-mul_right, suc-mul, add-one, ltb-true, ltb-false}
+use Rattle.std.specs.Prelude.{ℕ, zero, suc, ◌+◌, ◌*◌, ◌-◌, ◌/◌, ◌≤◌, ◌<◌, ◌≡◌, refl, Bool, true, false, ◌&&◌, List, [], ◌∷◌, length, get_or, min, ltb, if◌then◌else◌, None, Option, Some}
+use Rattle.std.proofs.Common.{sym, ap, ◌∙◌, arith, div-mul-le_self, mul-le-mul_right, suc-mul, add-one, ltb-true}
 use Rattle.std.proofs.lemmas.Bool.{false≢true}
-use Rattle.rules.specs.Base.{those, some_of, from}
-use Rattle.words.specs.declared.Key.{Key}
-use Rattle.words.specs.Search.{lesser_of, first_from, matches, in_row, next_row}
+use Rattle.std.specs.List.{list_all}
+use Rattle.std.proofs.lemmas.List.Recursion.{and_at}
+use Rattle.std.proofs.Common.{drop, drop-cons, drop_of_length-le}
+use Rattle.std.proofs.Math.Nat.{min-eq_left}
+use Rattle.rules.specs.Base.{every, those, some_of, from}
+use Rattle.words.specs.declared.Cell.{Cell}
+use Rattle.words.specs.Search.{first_from, matches, in_row, next_row}
 
 one_more : (n j : ℕ) → j < n → n - j ≡ suc (n - (j + 1))
 one_more n j h = omega arith
@@ -35,58 +39,59 @@ and_both : (a b : Bool) → a && b ≡ true → (a ≡ true) × (b ≡ true)
 and_both true b h = (refl, h)
 and_both false b h = elim (false≢true h) [ ]
 
--- the key's cells of the row are among n words
-abbrev pub CellsIn : Key → ℕ → ℕ → ℕ → Type 0
-CellsIn key width n row =
-    (row * width + key.first.at < n) × (row * width + key.second.at < n) × (row * width + key.third.at < n) × (row * width + key.fourth.at < n)
+and-if : (a b : Bool) → (if a then b else false) ≡ a && b
+and-if true b = refl
+and-if false b = refl
 
-module _ (key : Key) (width : ℕ) (inside : in_row key width ≡ true) where
-  pub cells-inside : (key.first.at < width) × (key.second.at < width) × (key.third.at < width) × (key.fourth.at < width)
-  cells-inside =
-      let four = and_both _ _ inside in
-      let three = and_both _ _ four.0 in
-      let two = and_both _ _ three.0 in
-      (ltb-true _ _ two.0, ltb-true _ _ two.1, ltb-true _ _ three.1, ltb-true _ _ four.1)
+every-at : {A : Type 0} (test : A → Bool) (xs : List A) (i : ℕ) (d : A) → i < length xs → every test xs ≡ true → test (get_or xs i d) ≡ true
+every-at test = and_at (every test) test refl (λ x xs. and-if (test x) (every test xs))
 
-  -- of a whole row they are
-  pub cells_in : (n row : ℕ) → row < n / width → CellsIn key width n row
-  cells_in n row whole =
-      let at = cells-inside in (
-        cell_in n width row key.first.at whole at.0,
-        cell_in n width row key.second.at whole at.1,
-        cell_in n width row key.third.at whole at.2,
-        cell_in n width row key.fourth.at whole at.3,
-      )
+pub every-all : {A : Type 0} (test : A → Bool) (xs : List A) → every test xs ≡ list_all test xs
+every-all test [] = refl
+every-all test (x ∷ xs) = and-if (test x) (every test xs) ∙ ap (λ rest. test x && rest) (every-all test xs)
 
--- ---- the lesser of two
-pub lesser-cases : (P : ℕ → Type 0) (a b : ℕ) → (a ≤ b → P a) → (b ≤ a → P b) → P (lesser_of a b)
-lesser-cases P a b = by (ltb a b) refl
-  where
-    by : (t : Bool) → ltb a b ≡ t → (a ≤ b → P a) → (b ≤ a → P b) → P (if t then a else b)
-    by true h p q = p (omega (arith, ltb-true a b h))
-    by false h p q = q (ltb-false a b h)
+-- what the rest of a list says, by its next element
+module _ {A : Type 0} (test : A → Bool) (xs : List A) (i : ℕ) (d : A) (l : i < length xs) where
+  pub every_next : test (get_or xs i d) ≡ true → every test (drop i xs) ≡ every test (drop (i + 1) xs)
+  every_next e = ap (every test) (drop-cons xs i d l) ∙ rw (e, add-one)
 
-pub lesser-left : (a b : ℕ) → a ≤ b → lesser_of a b ≡ a
-lesser-left a b h = lesser-cases (λ k. k ≡ a) a b (λ _. refl) (λ g. omega arith)
+  pub every_stops : test (get_or xs i d) ≡ false → every test (drop i xs) ≡ false
+  every_stops e = ap (every test) (drop-cons xs i d l) ∙ rw e
 
-pub lesser-right : (a b : ℕ) → lesser_of a b ≤ b
-lesser-right a b = lesser-cases (λ k. k ≤ b) a b (λ h. h) (λ _. omega arith)
+pub every_none : {A : Type 0} (test : A → Bool) (xs : List A) (i : ℕ) → length xs ≤ i → every test (drop i xs) ≡ true
+every_none test xs i l = ap (every test) (drop_of_length-le xs l)
+
+module _ (key : List Cell) (width : ℕ) (inside : in_row key width ≡ true) where
+  pub row-wide : 0 < width
+  row-wide = ltb-true _ _ (and_both _ _ inside).0
+
+  -- a whole row starts among the words
+  pub row_among : (n row : ℕ) → row < n / width → row * width < n
+  row_among n row whole = omega (arith, cell_in n width row 0 whole row-wide)
+
+  -- each of the key's cells is a cell of a row
+  pub cell-inside : (i : ℕ) (d : Cell) → i < length key → (get_or key i d).at < width
+  cell-inside i d l = ltb-true _ _ (every-at (λ (cell : Cell). ltb cell.at width) key i d l (and_both _ _ inside).1)
+
+  -- of a whole row it is one of the words
+  pub cell_among : (n row i : ℕ) (d : Cell) → row < n / width → i < length key → row * width + (get_or key i d).at < n
+  cell_among n row i d whole l = cell_in n width row (get_or key i d).at whole (cell-inside i d l)
 
 -- ---- the search of a key
-module _ (key : Key) (width from rows : ℕ) (words : List ℕ) where
+module _ (key : List Cell) (width from rows : ℕ) (words : List ℕ) where
   -- a key that has a cell beyond the row is nowhere
   pub next-row-none : in_row key width ≡ false → next_row key width from rows words ≡ None
   unfolding next_row
   next-row-none beyond = rw beyond
 
   -- the rows that are searched, where it has none
-  pub next-row-some : in_row key width ≡ true → next_row key width from rows words ≡ first_from (matches key width words) from (lesser_of rows (length words / width) - from)
+  pub next-row-some : in_row key width ≡ true → next_row key width from rows words ≡ first_from (matches key width words) from (min rows (length words / width) - from)
   unfolding next_row
   next-row-some inside = rw inside
 
   -- where there are as many rows as are asked for
   pub next-row-first : in_row key width ≡ true → rows ≤ length words / width → next_row key width from rows words ≡ first_from (matches key width words) from (rows - from)
-  next-row-first inside whole = next-row-some inside ∙ rw (lesser-left rows (length words / width) whole)
+  next-row-first inside whole = next-row-some inside ∙ rw (min-eq_left whole)
 
 -- ---- the first of those that pass the test
 abbrev pub is_found : Option ℕ → Bool

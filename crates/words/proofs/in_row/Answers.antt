@@ -1,22 +1,15 @@
--- `words::in_row` meets its contract, by one case for each test that decides it. Assumes nothing.
-use borrow.Author.Tests.{lt-ltb, le-ltb}
+-- `words::in_row` meets its contract. Assumes nothing.
+use Rattle.std.proofs.Common.{ltb, rules, tests, sym, ◌∙◌}
+use borrow.Author.Tests.{lt-ltb}
+use Rattle.std.proofs.lemmas.Iterator.{YieldsList-from_slice}
+use Rattle.std.proofs.lemmas.Iterator.Search.{all_from_yields_List}
+use Rattle.words.specs.declared.Cell.{Cell}
+use Rattle.words.specs.SearchLaws.{every-all}
 use Rattle.words.proofs.in_row.Goals as goal
 
-pub returns-then-third-width : goal.returns-then-third-width
-returns-then-third-width c =
-    let first = lt-ltb _ _ c.if-first-width.true in
-    let second = lt-ltb _ _ c.if-second-width.true in
-    let third = lt-ltb _ _ c.if-third-width.true in
-    rw (first, second, third)
-
-pub returns-else-third-width : goal.returns-else-third-width
-returns-else-third-width c =
-    let first = lt-ltb _ _ c.if-first-width.true in
-    let second = lt-ltb _ _ c.if-second-width.true in
-    rw (first, second, le-ltb _ _ c.if-third-width.false)
-
-pub returns-else-second-width : goal.returns-else-second-width
-returns-else-second-width c = rw (lt-ltb _ _ c.if-first-width.true, le-ltb _ _ c.if-second-width.false)
-
-pub returns-else-first-width : goal.returns-else-first-width
-returns-else-first-width c = rw (le-ltb _ _ c.if-first-width.false)
+pub returns-then-width-gt0 : goal.returns-then-width-gt0
+returns-then-width-gt0 c =
+    let a = c.args in
+    all_from_yields_List (λ (cell : Cell). ltb cell.at a.width) _ _ c.all.result c.all.ensures.ran (YieldsList-from_slice a.key.now cc) (λ x b q k. search (rules, tests))
+    ∙ sym (every-all (λ (cell : Cell). ltb cell.at a.width) a.key.now)
+    ∙ sym (rw (lt-ltb 0 a.width c.if-width-gt0.true))

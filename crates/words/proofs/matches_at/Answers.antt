@@ -1,56 +1,44 @@
 -- `words::matches_at` meets its contract. Each cell of a whole row is one of the words. Assumes nothing.
-use mathlib.Core.Path.{sym, ◌∙◌}
-use native.Mathlib.Omega.{arith}
-use lib.ListN.{length}
-use Rattle.words.specs.SearchLaws.{CellsIn, cells_in}
+use Rattle.std.proofs.Common.{length, sym, ◌∙◌, arith, eq-eqb, ne_eqb}
+use Rattle.words.specs.declared.Cell.{Cell}
+use Rattle.words.specs.Search.{holds_in}
+use Rattle.words.specs.SearchLaws.{cell_among, row_among, every_next, every_stops, every_none}
 use Rattle.words.proofs.matches_at.Goals as goal
+
+abbrev no_cell : Cell
+no_cell = record { at = 0; value = 0 }
 
 pub overflow_mul-start : goal.overflow_mul-start
 overflow_mul-start c =
-    let bounds : CellsIn c.args.key c.args.width (length c.args.words.now) c.args.row = cells_in c.args.key c.args.width c.requires.0 (length c.args.words.now) c.args.row c.requires.1 in
-    omega (arith, (bounds).0)
+    let a = c.args in
+    omega (arith, row_among a.key.now a.width c.requires.0 (length a.words.now) a.row c.requires.1)
 
-pub holds-requires : goal.holds-requires
-holds-requires c =
-    let bounds : CellsIn c.args.key c.args.width (length c.args.words.now) c.args.row = cells_in c.args.key c.args.width c.requires.0 (length c.args.words.now) c.args.row c.requires.1 in
-    omega (arith, bounds)
+pub overflow_add-start : goal.overflow_add-start
+overflow_add-start c =
+    let a = c.args in
+    omega (arith, cell_among a.key.now a.width c.requires.0 (length a.words.now) a.row c.loop-cell.cell-index no_cell c.requires.1 c.loop-cell-test.true)
 
-pub holds-requires-then-holds : goal.holds-requires-then-holds
-holds-requires-then-holds c =
-    let bounds : CellsIn c.args.key c.args.width (length c.args.words.now) c.args.row = cells_in c.args.key c.args.width c.requires.0 (length c.args.words.now) c.args.row c.requires.1 in
-    omega (arith, bounds)
+pub bounds-words-start : goal.bounds-words-start
+bounds-words-start c =
+    let a = c.args in
+    cell_among a.key.now a.width c.requires.0 (length a.words.now) a.row c.loop-cell.cell-index no_cell c.requires.1 c.loop-cell-test.true
 
-pub holds-requires-then-holds-2 : goal.holds-requires-then-holds-2
-holds-requires-then-holds-2 c =
-    let bounds : CellsIn c.args.key c.args.width (length c.args.words.now) c.args.row = cells_in c.args.key c.args.width c.requires.0 (length c.args.words.now) c.args.row c.requires.1 in
-    omega (arith, bounds)
+pub offset_bounds-words-start : goal.offset_bounds-words-start
+offset_bounds-words-start c =
+    let a = c.args in
+    omega (arith, cell_among a.key.now a.width c.requires.0 (length a.words.now) a.row c.loop-cell.cell-index no_cell c.requires.1 c.loop-cell-test.true)
 
-pub holds-requires-then-holds-3 : goal.holds-requires-then-holds-3
-holds-requires-then-holds-3 c =
-    let bounds : CellsIn c.args.key c.args.width (length c.args.words.now) c.args.row = cells_in c.args.key c.args.width c.requires.0 (length c.args.words.now) c.args.row c.requires.1 in
-    omega (arith, bounds)
+pub returns : goal.returns
+returns c =
+    let a = c.args in
+    sym (every_none (holds_in a.width a.words.now a.row) a.key.now c.loop-cell.cell-index c.loop-cell-test.false) ∙ c.loop-cell.invariant
 
-pub returns-then-holds-3 : goal.returns-then-holds-3
-returns-then-holds-3 c =
-    let first = sym c.holds.ensures ∙ c.if-holds.true in
-    let second = sym c.holds-then-holds.ensures ∙ c.if-holds-2.true in
-    let third = sym c.holds-then-holds-2.ensures ∙ c.if-holds-3.true in
-    c.holds-then-holds-3.ensures ∙ sym (rw (first, second, third))
+pub returns-then-words-start : goal.returns-then-words-start
+returns-then-words-start c =
+    let a = c.args in
+    sym (every_stops (holds_in a.width a.words.now a.row) a.key.now c.loop-cell.cell-index _ c.loop-cell-test.true (ne_eqb _ _ c.if-words-start.true)) ∙ c.loop-cell.invariant
 
-pub returns-else-holds-3 : goal.returns-else-holds-3
-returns-else-holds-3 c =
-    let first = sym c.holds.ensures ∙ c.if-holds.true in
-    let second = sym c.holds-then-holds.ensures ∙ c.if-holds-2.true in
-    let third = sym c.holds-then-holds-2.ensures ∙ c.if-holds-3.false in
-    c.if-holds-3.false ∙ sym (rw (first, second, third))
-
-pub returns-else-holds-2 : goal.returns-else-holds-2
-returns-else-holds-2 c =
-    let first = sym c.holds.ensures ∙ c.if-holds.true in
-    let second = sym c.holds-then-holds.ensures ∙ c.if-holds-2.false in
-    c.if-holds-2.false ∙ sym (rw (first, second))
-
-pub returns-else-holds : goal.returns-else-holds
-returns-else-holds c =
-    let first = sym c.holds.ensures ∙ c.if-holds.false in
-    c.if-holds.false ∙ sym (rw first)
+pub loop-cell-preserved : goal.loop-cell-preserved
+loop-cell-preserved c =
+    let a = c.args in
+    sym (every_next (holds_in a.width a.words.now a.row) a.key.now c.loop-cell.cell-index _ c.loop-cell-test.true (eq-eqb _ _ c.if-words-start.false)) ∙ c.loop-cell.invariant
