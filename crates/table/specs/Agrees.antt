@@ -1,6 +1,6 @@
 -- The tests of the words agree with the rules of intake: each row's, and so the first bad row of each part, and the verdict. Assumes nothing.
 use Prim.Native.Nat.{ℕ, zero, suc}
-use Rattle.std.specs.Prelude.{◌≡◌, refl, Bool, false, ◌&&◌, List, [], ◌∷◌, ◌++◌, map, length, T, ltb, eqb, if◌then◌else◌, None, Some, Option}
+use Rattle.std.specs.Prelude.{◌≡◌, refl, Bool, false, ◌&&◌, List, [], ◌∷◌, ◌++◌, map, length, T, ltb, eqb, if◌then◌else◌, Option as Answer, None, Some, Option}
 use Rattle.std.proofs.Math.Path.{sym}
 use Rattle.std.proofs.Common.{ap, ◌∙◌, subst, true≢false, arith, eqb→eq}
 use Rattle.std.proofs.Math.Bool.{true, not}
@@ -17,7 +17,6 @@ use Rattle.rules.specs.Ends.{no-some, if-both, one}
 use Rattle.rules.specs.Layout.{cell, parent_in, capacity_in, metric_in, stopwatch_in, kind_in, model_width, connector_width, coupling_width, model_row, connector_row, coupling_row, whole_coupling}
 use Rattle.rules.specs.Layout as Layout
 use Rattle.words.specs.Search.{first_from}
-use Rattle.table.specs.declared.Kind.TheVariants.{Broken}
 use Rattle.table.specs.Readers.{row_of, named, kind_of}
 use Rattle.table.specs.Judging.{processor_of, batcher_of, stopwatch_of, input_in, output_in, inner_in, kind_or, row_in, earlier_in, is_kind, cells_fit, row_fits, parent_joins, row_joins, row_keeps, connector_keeps, owner_fits, coupling_keeps}
 
@@ -30,12 +29,12 @@ keeps-where : {A : Type 0} (rules : A → List Bool) (b : Bool) (x : A) → keep
 keeps-where rules true x = refl
 keeps-where rules false x = refl
 
-abbrev pub place_of : Option ℕ → Option ℕ
+abbrev pub place_of : Answer ℕ → Option ℕ
 place_of (Some k) = Some k
 place_of None = None
 
 -- ---- the first bad row, by a test of each
-pick-place : (b : Bool) (k : ℕ) (rest : Option ℕ) → (if b then place_of rest else Some k) ≡ place_of (if not b then Some k else rest)
+pick-place : (b : Bool) (k : ℕ) (rest : Answer ℕ) → (if b then place_of rest else Some k) ≡ place_of (if not b then Some k else rest)
 pick-place true k rest = refl
 pick-place false k rest = refl
 
@@ -61,7 +60,7 @@ pub rows-first : (models : List ℕ) (k n : ℕ) → first_bad_row k (earlier_in
 rows-first models k zero = refl
 rows-first models k (suc n) = go (model_row (row_of model_width models k)) (read (row_of model_width models k) (kind_in (row_of model_width models k))) (rows-first models (suc k) n)
   where
-    rest : Option ℕ
+    rest : Answer ℕ
     rest = first_from (λ j. not (keeps (row_rules (earlier_in models j)) (model_row (row_of model_width models j)))) (suc k) n
 
     go : (o : Option Table.Row) → ((r : Table.Row) → o ≡ Some r → row_in models k ≡ r)
@@ -144,7 +143,7 @@ kind-cases row P processor batcher stopwatch coupled nothing = go (eqb (cell row
 named-is : (k : Table.Kind) → is_kind (kind_of (Some k)) ≡ hold (kind_rules k)
 named-is k = go k (hold (kind_rules k))
   where
-    go : (k : Table.Kind) (b : Bool) → is_kind (if b then named k else Broken) ≡ b
+    go : (k : Table.Kind) (b : Bool) → is_kind (if b then Some (named k) else None) ≡ b
     go k false = refl
     go (Table.processor p) true = refl
     go (Table.batcher b) true = refl

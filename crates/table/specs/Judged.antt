@@ -1,5 +1,5 @@
 -- The verdict on a lent table is that of its words: sizes, then the first bad row of each part. Assumes nothing.
-use Rattle.std.specs.Prelude.{ℕ, zero, suc, ◌+◌, ◌*◌, ◌/◌, ◌≤◌, ◌<◌, ◌≡◌, refl, Bool, true, false, ◌&&◌, length, leb, if◌then◌else◌, None, Some, Option}
+use Rattle.std.specs.Prelude.{ℕ, zero, suc, ◌+◌, ◌*◌, ◌/◌, ◌≤◌, ◌<◌, ◌≡◌, refl, Bool, true, false, ◌&&◌, length, leb, if◌then◌else◌, Option as Answer, None, Some, Result, Ok, Err, ⊤, Option}
 use Rattle.std.proofs.Common.{sym, ◌∙◌, subst, add-zero, zero-add, arith, le-leb}
 use Rattle.std.proofs.Math.Path.{ap}
 use Rattle.std.proofs.Math.Bool.{not}
@@ -21,8 +21,8 @@ use Rattle.words.specs.Search.{first_from}
 use Rattle.words.specs.SearchLaws.{found-not}
 use Rattle.table.specs.declared.Part.{Part}
 use Rattle.table.specs.declared.Part.TheVariants.{Models, Connectors, Couplings}
-use Rattle.table.specs.declared.Verdict.{Verdict}
-use Rattle.table.specs.declared.Verdict.TheVariants.{TooLarge, BadRow, BadConnector, BadCoupling, Passed}
+use Rattle.table.specs.declared.BadTable.{BadTable}
+use Rattle.table.specs.declared.BadTable.TheVariants.{TooLarge, Row, Connector, Coupling}
 use Rattle.table.specs.Readers.{row_of}
 use Rattle.table.specs.Verdicts.{verdict_of}
 use Rattle.table.specs.Rows.{count_of, lines_are, row-begins, rows_fit, rows_whole}
@@ -123,13 +123,13 @@ module _ (models couplings : List ℕ) where
 
 -- ---- the verdict
 -- what was found in the three parts, in their order
-abbrev pub judged : Option ℕ → Option ℕ → Option ℕ → Verdict
-judged (Some k) y z = BadRow k
-judged None (Some k) z = BadConnector k
-judged None None (Some k) = BadCoupling k
-judged None None None = Passed
+abbrev pub judged : Answer ℕ → Answer ℕ → Answer ℕ → Result ⊤ BadTable
+judged (Some k) y z = Err (Row k)
+judged None (Some k) z = Err (Connector k)
+judged None None (Some k) = Err (Coupling k)
+judged None None None = Ok tt
 
-steps : (p : Posted) (x y z : Option ℕ) → hold (size_rules p) ≡ true → first_bad_row 0 [] p.rows ≡ place_of x → first_bad connector_rules 0 p.connectors ≡ place_of y
+steps : (p : Posted) (x y z : Answer ℕ) → hold (size_rules p) ≡ true → first_bad_row 0 [] p.rows ≡ place_of x → first_bad connector_rules 0 p.connectors ≡ place_of y
     → (x ≡ None → first_bad (coupling_rules (whole p.rows)) 0 p.couplings ≡ place_of z) → verdict_of (Intake.intake p) ≡ judged x y z
 unfolding Intake.intake
 steps p (Some k) y z s f g h = rw (s, f)
@@ -142,7 +142,7 @@ module _ (models connectors couplings : List ℕ) where
   posted = lent models connectors couplings
 
   -- more rows than there may be
-  large : hold (size_rules posted) ≡ false → verdict_of (Intake.intake posted) ≡ TooLarge
+  large : hold (size_rules posted) ≡ false → verdict_of (Intake.intake posted) ≡ Err TooLarge
   unfolding Intake.intake
   large e = rw e
 
@@ -152,17 +152,17 @@ module _ (models connectors couplings : List ℕ) where
   size-over : {A : Type 0} (f : List ℕ → Option A) (width : ℕ) → 0 < width → (most : ℕ) (words : List ℕ) → most * width < length words → leb (length (map f (rows_of width words))) most ≡ false
   size-over f width wide most words l = rw (length-map (rows_of width words) f) (lt-leb (count_of width words) most ((row-begins width wide words most).1 l))
 
-  pub large-models : 640 < length models → verdict_of (Intake.intake posted) ≡ TooLarge
+  pub large-models : 640 < length models → verdict_of (Intake.intake posted) ≡ Err TooLarge
   unfolding lent
   large-models l = large (rw (size-over model_row 10 (omega arith) 64 models l))
 
   module _ (few : length models ≤ 640) where
-    pub large-connectors : 1024 < length connectors → verdict_of (Intake.intake posted) ≡ TooLarge
+    pub large-connectors : 1024 < length connectors → verdict_of (Intake.intake posted) ≡ Err TooLarge
     unfolding lent
     large-connectors l = large (rw (size_fits model_row 10 (omega arith) 64 models few, size-over connector_row 4 (omega arith) 256 connectors l))
 
     module _ (few' : length connectors ≤ 1024) where
-      pub large-couplings : 1536 < length couplings → verdict_of (Intake.intake posted) ≡ TooLarge
+      pub large-couplings : 1536 < length couplings → verdict_of (Intake.intake posted) ≡ Err TooLarge
       unfolding lent
       large-couplings l = large (rw (size_fits model_row 10 (omega arith) 64 models few, size_fits connector_row 4 (omega arith) 256 connectors few', size-over coupling_row 6 (omega arith) 256 couplings l))
 

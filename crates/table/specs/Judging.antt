@@ -1,5 +1,5 @@
 -- What the private functions of `table` answer: a row read whether it is whole or not, and the tests of a row, a connector and a coupling in the code's order. Definitions only. Assumes nothing.
-use Rattle.std.specs.Prelude.{ℕ, zero, suc, ◌-◌, ◌/◌, Bool, true, false, not, ◌&&◌, List, [], ◌∷◌, length, leb, ltb, eqb, if◌then◌else◌, None, Some, Option}
+use Rattle.std.specs.Prelude.{ℕ, zero, suc, ◌-◌, ◌/◌, Bool, true, not, ◌&&◌, List, [], ◌∷◌, length, leb, ltb, eqb, if◌then◌else◌, is_some, Option as Answer, None, Some, Option}
 use Rattle.std.specs.Float.{binary64}
 use Rattle.std.specs.Float.Ieee.{of_bits}
 use Rattle.rules.specs.declared.Metric.{Metric}
@@ -13,7 +13,6 @@ use Rattle.words.specs.Search.{first_from}
 use Rattle.table.specs.declared.Part.{Part}
 use Rattle.table.specs.declared.Part.TheVariants.{Models, Connectors, Couplings}
 use Rattle.table.specs.declared.Kind.{Kind}
-use Rattle.table.specs.declared.Kind.TheVariants.{Processor, Batcher, Stopwatch, Coupled, Broken}
 use Rattle.table.specs.Readers.{row_of, kind_of}
 use Rattle.table.specs.Rows.{count_of}
 
@@ -34,14 +33,19 @@ setting_in field omitted row = if is_given field row then cell row 8 else omitte
 unfoldable pub stopwatch_at : List ℕ → Option Table.Kind
 stopwatch_at row = stopwatch_in row (metric_in row)
 
-abbrev pub is_kind : Kind → Bool
-is_kind (Processor p) = true
-is_kind (Batcher b) = true
-is_kind (Stopwatch w) = true
-is_kind Coupled = true
-is_kind Broken = false
+-- the port that a word says
+abbrev pub port_of : ℕ → Answer ℕ
+port_of n = if is_port n then Some n else None
 
-abbrev pub option_of : Option ℕ → Option ℕ
+-- a metric, as the code has it
+abbrev pub metric_of : Option Metric → Answer Metric
+metric_of None = None
+metric_of (Some m) = Some m
+
+abbrev pub is_kind : Answer Kind → Bool
+is_kind k = is_some k
+
+abbrev pub option_of : Answer ℕ → Option ℕ
 option_of None = None
 option_of (Some id) = Some id
 
@@ -129,5 +133,5 @@ keeps_in Connectors models words k = connector_keeps (row_of connector_width wor
 keeps_in Couplings models words k = coupling_keeps (all_in models) (row_of coupling_width words k)
 
 -- the first row of this part that does not
-abbrev pub first_bad_in : Part → List ℕ → List ℕ → Option ℕ
+abbrev pub first_bad_in : Part → List ℕ → List ℕ → Answer ℕ
 first_bad_in part models words = first_from (λ k. not (keeps_in part models words k)) 0 (count_of (width_of part) words)

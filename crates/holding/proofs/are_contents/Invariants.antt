@@ -1,5 +1,5 @@
 -- `holding::are_contents` meets its contract. The invariant: the words from k on pass exactly if all do. Assumes nothing.
-use Prim.Native.Nat.{◌-◌, ◌≤◌}
+use Prim.Native.Nat.{◌-◌}
 use mathlib.Core.Path.{◌≡◌}
 use lib.ListN.{length}
 use Rattle.rules.specs.Base.{every}

@@ -1,7 +1,6 @@
 -- `holding::is_clear` meets its contract. The invariant: what is joined is 0 and the words from k on are exactly if all are. Assumes nothing.
-use Prim.Native.Nat.{ℕ, ◌-◌, ◌≤◌}
+use Prim.Native.Nat.{ℕ, ◌-◌}
 use mathlib.Core.Path.{◌≡◌}
-use lib.ListN.{length}
 use lib.Dec.{eqb}
 use Rattle.rules.specs.Base.{every}
 use Rattle.holding.specs.RowLaws.{joined_from}

@@ -2,7 +2,6 @@
 use mathlib.Core.Path.{sym, ◌∙◌}
 use Rattle.marks.specs.SweepLaws.{begun}
 use Rattle.holding.specs.WholeLaws.{messages_from, messages-over, messages-stop, messages-on}
-use borrow.Author.Rules.{rules}
 use Rattle.holding.proofs.messages_fit.Goals as goal
 
 pub loop-k-init : goal.loop-k-init

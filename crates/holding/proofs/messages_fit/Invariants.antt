@@ -1,5 +1,5 @@
 -- `holding::messages_fit` meets its contract. The invariant: the messages from k on fit exactly if all do. Assumes nothing.
-use Prim.Native.Nat.{◌-◌, ◌≤◌}
+use Prim.Native.Nat.{◌-◌}
 use mathlib.Core.Path.{◌≡◌}
 use Rattle.holding.specs.WholeLaws.{messages_from}
 use Rattle.holding.proofs.messages_fit.Given as goal

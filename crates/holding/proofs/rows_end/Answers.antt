@@ -6,7 +6,6 @@ use Rattle.views.specs.World.{begin_of}
 use Rattle.marks.specs.SweepLaws.{begun}
 use Rattle.holding.specs.Fitting.{rows_from}
 use Rattle.holding.specs.WholeLaws.{begin-room, rows-over, rows-stop, rows_on, rows-bad, rows-good}
-use borrow.Author.Rules.{rules}
 use Rattle.holding.proofs.rows_end.Goals as goal
 
 pub overflow_mul-begin : goal.overflow_mul-begin

@@ -1,5 +1,5 @@
 -- `holding::rows_end` meets its contract. The invariant: the next row's own words begin where those before it end, and the rows from there on stand exactly if all do. Assumes nothing.
-use Prim.Native.Nat.{◌-◌, ◌≤◌}
+use Prim.Native.Nat.{◌-◌}
 use mathlib.Core.Path.{◌≡◌}
 use Rattle.lookup.specs.Inside.{table_in}
 use Rattle.views.specs.World.{begin_of}

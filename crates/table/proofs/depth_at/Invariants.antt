@@ -8,6 +8,3 @@ use Rattle.table.proofs.depth_at.Given as goal
 
 abbrev pub invariant-loop-at : goal.invariant-loop-at
 invariant-loop-at l = (depth_from l.models l.at l.parent + l.depth ≡ suc (depth_in l.models l.row)) × (l.depth + l.at ≤ suc l.row) × (l.row < length l.models)
-
-abbrev pub decreases-loop-at : goal.decreases-loop-at
-decreases-loop-at l = l.at

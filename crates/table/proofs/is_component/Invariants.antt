@@ -9,6 +9,3 @@ use Rattle.table.proofs.is_component.Given as goal
 abbrev pub invariant-loop-row : goal.invariant-loop-row
 invariant-loop-row l =
     (l.row ≤ length l.models / 10) × (is_component_of (earlier_in l.models l.row) l.owner l.target ≡ is_component_of (all_in l.models) l.owner l.target)
-
-abbrev pub decreases-loop-row : goal.decreases-loop-row
-decreases-loop-row l = l.row
