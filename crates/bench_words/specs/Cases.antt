@@ -1,16 +1,15 @@
 -- Words computed as times: decimal numbers rounded once, whole numbers and bits, and what is none of these. Assumes nothing.
-use Rattle.std.specs.Prelude.{ℕ, ◌≡◌, refl}
+use Rattle.std.specs.Prelude.{ℕ, ◌≡◌, refl, Some, None}
 use Prim.Native.String.{String}
 use Rattle.std.specs.Float.Ieee.{of_int, round, to_bits}
-use Rattle.bench_words.specs.declared.Number.TheVariants.{Is, Not}
 use Rattle.bench_words.specs.Numbers.{digit_of, numeral, number_of, has_bits, decimal_of, time_of}
 use Rattle.bench_words.specs.Texts.{bytes}
 
 abbrev Reads : String → ℕ → Type 0
-Reads word bits = time_of (bytes word) ≡ Is bits
+Reads word bits = time_of (bytes word) ≡ Some bits
 
-abbrev None : String → Type 0
-None word = time_of (bytes word) ≡ Not
+abbrev Refused : String → Type 0
+Refused word = time_of (bytes word) ≡ None
 
 pub record Table : Type 0 where
   pub half : Reads "0.5" 0x3FE0_0000_0000_0000
@@ -28,21 +27,21 @@ pub record Table : Type 0 where
   pub whole : Reads "12" 0x4028_0000_0000_0000
   pub sixteen-digits-whole : Reads "9007199254740992" 0x4340_0000_0000_0000
   pub bits : Reads "0x3FB999999999999A" 0x3FB9_9999_9999_999A
-  pub nothing-before : None ".5"
-  pub nothing-behind : None "5."
-  pub two-points : None "1.2.3"
-  pub minus : None "-0.5"
-  pub plus : None "+1.5"
-  pub exponent : None "1e3"
-  pub exponent-behind : None "1.5e3"
-  pub unit : None "2.5ms"
-  pub hex-digit : None "1.A"
-  pub sixteen-digits : None "0.000000000000001"
-  pub sixteen-digits-before : None "123456789012345.6"
-  pub empty : None ""
-  pub lone-point : None "."
-  pub comma : None "1,5"
-  pub bits-with-point : None "0x3FB999999999.99A"
+  pub nothing-before : Refused ".5"
+  pub nothing-behind : Refused "5."
+  pub two-points : Refused "1.2.3"
+  pub minus : Refused "-0.5"
+  pub plus : Refused "+1.5"
+  pub exponent : Refused "1e3"
+  pub exponent-behind : Refused "1.5e3"
+  pub unit : Refused "2.5ms"
+  pub hex-digit : Refused "1.A"
+  pub sixteen-digits : Refused "0.000000000000001"
+  pub sixteen-digits-before : Refused "123456789012345.6"
+  pub empty : Refused ""
+  pub lone-point : Refused "."
+  pub comma : Refused "1,5"
+  pub bits-with-point : Refused "0x3FB999999999.99A"
 
 pub cases : Table
 unfolding digit_of numeral number_of has_bits decimal_of time_of of_int round to_bits

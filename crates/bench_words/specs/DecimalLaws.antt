@@ -1,5 +1,5 @@
 -- What the reader of decimal numbers asks: the word's parts by their lengths, and that the quotient of two whole floats is their fraction, rounded once. Assumes nothing.
-use Rattle.std.specs.Prelude.{◌≡◌, ℕ, suc, ◌+◌, ◌-◌, ◌*◌, ◌^◌, ◌≤◌, ◌<◌, false, List, ◌++◌, length, take, ℤ, Float}
+use Rattle.std.specs.Prelude.{◌≡◌, ℕ, suc, ◌+◌, ◌-◌, ◌*◌, ◌^◌, ◌≤◌, ◌<◌, false, List, ◌++◌, length, take, ℤ, Float, None}
 use Rattle.std.proofs.Common.{sym, ap, ◌∙◌, subst, le_trans, mul_comm, mul_assoc, mul_left_comm, mul-pos, mul-one, arith, length-take-le, lit≤, pow_pos}
 use Rattle.std.proofs.Math.Nat.{one-le-pow, pow-le-pow_right}
 use borrow.Author.Tests.{lt-ltb, le-leb, lt-leb, ne_eqb}
@@ -11,7 +11,6 @@ use Rattle.std.specs.Float.Ieee.Positive.{first_pos}
 use Rattle.std.specs.Float.Ieee.Scale.{round_same}
 use Rattle.times.specs.Order.{Is, is}
 use Rattle.times.proofs.Whole.{tick, tick_is}
-use Rattle.bench_words.specs.declared.Number.TheVariants.{Not}
 use Rattle.bench_words.specs.Texts.{text_span}
 use Rattle.bench_words.specs.Numbers.{numeral, over_tens, nines, decimal_of}
 use Rattle.bench_words.specs.NumbersLaws.{and-false, number-some}
@@ -54,15 +53,15 @@ module _ (word : List ℕ) (point behind : ℕ) (at : point ≡ text_span word) 
   behind-length : length (drop (suc (text_span word)) word) ≡ behind
   behind-length = rw (← at) (length-drop (suc point) word ∙ omega arith)
 
-  pub decimal-no-before : point ≡ 0 → decimal_of word ≡ Not
+  pub decimal-no-before : point ≡ 0 → decimal_of word ≡ None
   unfolding decimal_of
   decimal-no-before h = rw (before-length, h)
 
-  pub decimal-no-behind : behind ≡ 0 → decimal_of word ≡ Not
+  pub decimal-no-behind : behind ≡ 0 → decimal_of word ≡ None
   unfolding decimal_of
   decimal-no-behind h = simp (behind-length, h, and-false)
 
-  pub decimal-long : 16 < length word → decimal_of word ≡ Not
+  pub decimal-long : 16 < length word → decimal_of word ≡ None
   unfolding decimal_of
   decimal-long h = simp (before-length, behind-length, lt-leb (point + behind) 15 (omega arith), and-false)
 

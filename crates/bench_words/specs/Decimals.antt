@@ -1,5 +1,5 @@
 -- What words with a point read as, by their digits; words without one read as they did before there were any. Assumes nothing.
-use Rattle.std.specs.Prelude.{◌≡◌, refl, ℕ, zero, suc, ◌+◌, ◌-◌, ◌*◌, ◌^◌, ◌≤◌, ◌<◌, Bool, true, false, not, ◌&&◌, List, [], ◌∷◌, ◌++◌, length, get_or, take, drop, replicate, T, ltb, leb, eqb, pos, Float, if◌then◌else◌}
+use Rattle.std.specs.Prelude.{◌≡◌, refl, ℕ, zero, suc, ◌+◌, ◌-◌, ◌*◌, ◌^◌, ◌≤◌, ◌<◌, Bool, true, false, not, ◌&&◌, List, [], ◌∷◌, ◌++◌, length, get_or, take, drop, replicate, T, ltb, leb, eqb, pos, Float, if◌then◌else◌, Option, Some, None}
 use Rattle.std.proofs.Common.{sym, ap, ap₂, ◌∙◌, subst, le_trans, lt_of_lt_of_le, le_of_eq, mul-le-mul_right, mul_assoc, mul-one, add-zero, add-one, arith, lt-ltb, le-ltb, le-leb, ltb-true, leb-true, eqb-true, ne_eqb, length-append, length-drop, take-append-drop, take_at, drop-cons, pow_pos}
 use Rattle.std.proofs.Math.Nat.{pow-succ'}
 use Rattle.std.proofs.lemmas.Bool.{false≢true}
@@ -16,8 +16,6 @@ use Rattle.times.specs.Order as Order
 use Rattle.times.specs.Rounded.{round-at}
 use Rattle.times.proofs.Laws.{time-decides, time-fits, instant-time, latest-time}
 use Rattle.times.proofs.Whole.{tick, tick-time}
-use Rattle.bench_words.specs.declared.Number.{Number}
-use Rattle.bench_words.specs.declared.Number.TheVariants.{Is, Not}
 use Rattle.bench_words.specs.Texts.{is_dot, text_span}
 use Rattle.bench_words.specs.Numbers.{digit_of, numeral, number_of, has_bits, has_point, ticks, over_tens, nines, decimal_of, time_of}
 use Rattle.bench_words.specs.NumbersLaws.{number-some, number-most, time-bits, time-decimal, time-whole}
@@ -84,21 +82,21 @@ digits-parted : (xs ys : List ℕ) → Digits (xs ++ ys) → Digits xs × Digits
 digits-parted [] ys ds = (none, ds)
 digits-parted (x ∷ xs) ys (more h k ds) = let rest = digits-parted xs ys ds in (more h k rest.0, rest.1)
 
-numeral-made : (most value : ℕ) {bs : List ℕ} → Digits bs → made value bs ≤ most → numeral 10 most value bs ≡ Is (made value bs)
+numeral-made : (most value : ℕ) {bs : List ℕ} → Digits bs → made value bs ≤ most → numeral 10 most value bs ≡ Some (made value bs)
 unfolding numeral
 numeral-made most value none h = refl
 numeral-made most value (more {b} {bs} p q ds) h =
     simp (digit-is b p q, lt-ltb (b - 48) 10 (omega arith), le-leb (value * 10 + (b - 48)) most (le_trans (made-least (value * 10 + (b - 48)) bs) h))
     (numeral-made most (value * 10 + (b - 48)) ds h)
 
-numeral-digits : (most value : ℕ) (bs : List ℕ) (n : ℕ) → numeral 10 most value bs ≡ Is n → Digits bs
+numeral-digits : (most value : ℕ) (bs : List ℕ) (n : ℕ) → numeral 10 most value bs ≡ Some n → Digits bs
 unfolding numeral
 numeral-digits most value [] n e = none
 numeral-digits most value (b ∷ bs) n e =
     go (ltb (digit_of b) 10) (leb (value * 10 + digit_of b) most) (ltb-true (digit_of b) 10) (numeral-digits most (value * 10 + digit_of b) bs n) e
   where
-    go : (t u : Bool) → (t ≡ true → digit_of b < 10) → (numeral 10 most (value * 10 + digit_of b) bs ≡ Is n → Digits bs)
-        → (if t && u then numeral 10 most (value * 10 + digit_of b) bs else Not) ≡ Is n → Digits (b ∷ bs)
+    go : (t u : Bool) → (t ≡ true → digit_of b < 10) → (numeral 10 most (value * 10 + digit_of b) bs ≡ Some n → Digits bs)
+        → (if t && u then numeral 10 most (value * 10 + digit_of b) bs else None) ≡ Some n → Digits (b ∷ bs)
     go true true h rest e = let d = digit-back b (h refl) in more d.0 d.1 (rest e)
     go true false h rest e = let z : ◌≡◌ {A = ℕ} 0 1 = cc in absurd (omega arith)
     go false u h rest e = let z : ◌≡◌ {A = ℕ} 0 1 = cc in absurd (omega arith)
@@ -122,17 +120,17 @@ span-at (b ∷ bs) h = go (is_dot b) (eqb-true b 46) (span-at bs) h
     go false e rest h = rest (omega arith)
 
 -- a point is no digit in any base
-pointed-not : (base most value : ℕ) (bs : List ℕ) → base ≤ 16 → text_span bs < length bs → numeral base most value bs ≡ Not
+pointed-not : (base most value : ℕ) (bs : List ℕ) → base ≤ 16 → text_span bs < length bs → numeral base most value bs ≡ None
 unfolding numeral digit_of
 pointed-not base most value [] k h = absurd (omega arith)
 pointed-not base most value (b ∷ bs) k h = go (is_dot b) (eqb-true b 46) (pointed-not base most (value * base + digit_of b) bs k) h
   where
-    not-either : (t : Bool) → (if t then Not else Not) ≡ Not
+    not-either : (t : Bool) → ◌≡◌ {A = Option ℕ} (if t then None else None) None
     not-either true = refl
     not-either false = refl
 
-    go : (t : Bool) → (t ≡ true → b ≡ 46) → (text_span bs < length bs → numeral base most (value * base + digit_of b) bs ≡ Not)
-        → (if not t then suc (text_span bs) else 0) < suc (length bs) → numeral base most value (b ∷ bs) ≡ Not
+    go : (t : Bool) → (t ≡ true → b ≡ 46) → (text_span bs < length bs → numeral base most (value * base + digit_of b) bs ≡ None)
+        → (if not t then suc (text_span bs) else 0) < suc (length bs) → numeral base most value (b ∷ bs) ≡ None
     go true e rest h = rw (e refl, le-ltb 16 base k)
     go false e rest h = rw (rest (omega arith)) (not-either (ltb (digit_of b) base && leb (value * base + digit_of b) most))
 
@@ -160,7 +158,7 @@ digits-few : (bs : List ℕ) → Digits bs → length bs ≤ 15 → made 0 bs �
 digits-few bs ds h = omega (arith, made-most 0 ds, tens-most (length bs) h)
 
 -- digits, a point, digits are the number before the point and the part behind it
-pub decimal-reads : (before behind : List ℕ) → Shaped before behind → time_of (pointed before behind) ≡ Is (rounded (made 0 before * 10 ^ length behind + made 0 behind) (length behind))
+pub decimal-reads : (before behind : List ℕ) → Shaped before behind → time_of (pointed before behind) ≡ Some (rounded (made 0 before * 10 ^ length behind + made 0 behind) (length behind))
 decimal-reads before behind s =
     let word = pointed before behind in
     let p = length before in
@@ -174,10 +172,10 @@ decimal-reads before behind s =
     ∙ decimal-is word p k at (omega arith) (omega arith) s.some-before s.some-behind (omega (arith, s.few))
     ∙ ap (λ (bs : List ℕ). over_tens k (numeral 10 nines 0 bs)) parts
     ∙ ap (over_tens k) (numeral-made nines 0 all (digits-few (before ++ behind) all few))
-    ∙ ap (λ (n : ℕ). Is (rounded n k)) (made-joined 0 before behind ∙ made-split (made 0 before) behind)
+    ∙ ap (λ (n : ℕ). Some (rounded n k)) (made-joined 0 before behind ∙ made-split (made 0 before) behind)
 
 -- ---- and nothing else with a point is read
-taken : (t : Bool) (x : Number) (b : ℕ) → (if t then x else Not) ≡ Is b → (t ≡ true) × (x ≡ Is b)
+taken : (t : Bool) (x : Option ℕ) (b : ℕ) → (if t then x else None) ≡ Some b → (t ≡ true) × (x ≡ Some b)
 taken true x b e = (refl, e)
 taken false x b e = let z : ◌≡◌ {A = ℕ} 0 1 = cc in absurd (omega arith)
 
@@ -187,9 +185,9 @@ all_true true true false e = absurd (false≢true e)
 all_true true false v e = absurd (false≢true e)
 all_true false u v e = absurd (false≢true e)
 
-over-is : (k : ℕ) (x : Number) (b : ℕ) → over_tens k x ≡ Is b → (n : ℕ) × (x ≡ Is n)
-over-is k (Is n) b e = (n, refl)
-over-is k Not b e = let z : ◌≡◌ {A = ℕ} 0 1 = cc in absurd (omega arith)
+over-is : (k : ℕ) (x : Option ℕ) (b : ℕ) → over_tens k x ≡ Some b → (n : ℕ) × (x ≡ Some n)
+over-is k (Some n) b e = (n, refl)
+over-is k None b e = let z : ◌≡◌ {A = ℕ} 0 1 = cc in absurd (omega arith)
 
 -- the word's parts
 pub record Parted (word : List ℕ) : Type 0 where
@@ -198,7 +196,7 @@ pub record Parted (word : List ℕ) : Type 0 where
   pub is : word ≡ pointed before behind
   pub shaped : Shaped before behind
 
-decimal-parted : (word : List ℕ) (b : ℕ) → decimal_of word ≡ Is b → Parted word
+decimal-parted : (word : List ℕ) (b : ℕ) → decimal_of word ≡ Some b → Parted word
 unfolding decimal_of
 decimal-parted word b e =
     let p = text_span word in
@@ -236,10 +234,10 @@ bits-point (a ∷ b ∷ rest) e h =
     within : a ≡ 48 → b ≡ 120 → text_span (a ∷ b ∷ rest) < suc (suc (length rest)) → text_span rest < length rest
     within p q h = omega (arith, rw (p, q) at h)
 
-bits-pointed : (word : List ℕ) → has_bits word ≡ true → has_point word ≡ true → time_of word ≡ Not
+bits-pointed : (word : List ℕ) → has_bits word ≡ true → has_point word ≡ true → time_of word ≡ None
 bits-pointed word e p = time-bits word e ∙ pointed-not 16 0xFFFF_FFFF_FFFF_FFFF 0 (drop 2 word) (omega arith) (bits-point word e (ltb-true (text_span word) (length word) p))
 
-pub only-decimals : (word : List ℕ) (b : ℕ) → has_point word ≡ true → time_of word ≡ Is b → Parted word
+pub only-decimals : (word : List ℕ) (b : ℕ) → has_point word ≡ true → time_of word ≡ Some b → Parted word
 only-decimals word b p e = go (has_bits word) refl
   where
     go : (t : Bool) → has_bits word ≡ t → Parted word
@@ -247,24 +245,24 @@ only-decimals word b p e = go (has_bits word) refl
     go false h = decimal-parted word b (sym (time-decimal word h p) ∙ e)
 
 -- ---- words without a point, and all that was read before there were decimal numbers, read as they did
-abbrev pub earlier : List ℕ → Number
+abbrev pub earlier : List ℕ → Option ℕ
 earlier word = if has_bits word then numeral 16 0xFFFF_FFFF_FFFF_FFFF 0 (drop 2 word) else ticks (number_of 0x20_0000_0000_0000 word)
 
 pub without-point : (word : List ℕ) → has_point word ≡ false → time_of word ≡ earlier word
 unfolding time_of
 without-point word p = rw p
 
-whole-pointed : (word : List ℕ) → has_point word ≡ true → number_of 0x20_0000_0000_0000 word ≡ Not
+whole-pointed : (word : List ℕ) → has_point word ≡ true → number_of 0x20_0000_0000_0000 word ≡ None
 whole-pointed word p =
     let h = ltb-true (text_span word) (length word) p in
     number-some 0x20_0000_0000_0000 word (λ e. omega arith) ∙ pointed-not 10 0x20_0000_0000_0000 0 word (omega arith) h
 
-pub earlier-kept : (word : List ℕ) (b : ℕ) → earlier word ≡ Is b → time_of word ≡ Is b
+pub earlier-kept : (word : List ℕ) (b : ℕ) → earlier word ≡ Some b → time_of word ≡ Some b
 unfolding time_of
 earlier-kept word b e = go (has_bits word) (has_point word) refl e
   where
-    go : (t u : Bool) → has_point word ≡ u → (if t then numeral 16 0xFFFF_FFFF_FFFF_FFFF 0 (drop 2 word) else ticks (number_of 0x20_0000_0000_0000 word)) ≡ Is b
-        → (if t then numeral 16 0xFFFF_FFFF_FFFF_FFFF 0 (drop 2 word) else if u then decimal_of word else ticks (number_of 0x20_0000_0000_0000 word)) ≡ Is b
+    go : (t u : Bool) → has_point word ≡ u → (if t then numeral 16 0xFFFF_FFFF_FFFF_FFFF 0 (drop 2 word) else ticks (number_of 0x20_0000_0000_0000 word)) ≡ Some b
+        → (if t then numeral 16 0xFFFF_FFFF_FFFF_FFFF 0 (drop 2 word) else if u then decimal_of word else ticks (number_of 0x20_0000_0000_0000 word)) ≡ Some b
     go true u p e = e
     go false true p e = let no = ap ticks (whole-pointed word p) in let z : ◌≡◌ {A = ℕ} 0 1 = cc in absurd (omega arith)
     go false false p e = e
@@ -292,7 +290,7 @@ bits-time : (x : Float) → T (is_time x) → T (is_time (of_bits binary64 (to_b
 bits-time x t = subst (λ (y : Float). T (is_time y)) (sym (of_bits-to_bits binary64 x (time-fits x t))) t
 
 -- what is written in digits is always a time; what is written in bits need not be
-pub read-time : (word : List ℕ) (b : ℕ) → has_bits word ≡ false → time_of word ≡ Is b → T (is_time (of_bits binary64 b))
+pub read-time : (word : List ℕ) (b : ℕ) → has_bits word ≡ false → time_of word ≡ Some b → T (is_time (of_bits binary64 b))
 read-time word b h e = go (has_point word) refl
   where
     decimal : Parted word → T (is_time (of_bits binary64 b))
@@ -306,11 +304,11 @@ read-time word b h e = go (has_point word) refl
         let most : n ≤ nines = omega (arith, made-joined 0 w.before w.behind, made-split (made 0 w.before) w.behind) in
         subst (λ (z : ℕ). T (is_time (of_bits binary64 z))) same (bits-time (round binary64 false n (10 ^ k)) (round-time n (10 ^ k) (tens-pos k) (omega arith)))
 
-    whole : (x : Number) → number_of 0x20_0000_0000_0000 word ≡ x → ticks x ≡ Is b → T (is_time (of_bits binary64 b))
-    whole (Is n) f e =
+    whole : (x : Option ℕ) → number_of 0x20_0000_0000_0000 word ≡ x → ticks x ≡ Some b → T (is_time (of_bits binary64 b))
+    whole (Some n) f e =
         let same : to_bits binary64 (tick n) ≡ b = cc in
         subst (λ (z : ℕ). T (is_time (of_bits binary64 z))) same (bits-time (tick n) (tick-time n (number-most 0x20_0000_0000_0000 word n f)))
-    whole Not f e = let z : ◌≡◌ {A = ℕ} 0 1 = cc in absurd (omega arith)
+    whole None f e = let z : ◌≡◌ {A = ℕ} 0 1 = cc in absurd (omega arith)
 
     go : (t : Bool) → has_point word ≡ t → T (is_time (of_bits binary64 b))
     go true p = decimal (only-decimals word b p e)
@@ -340,8 +338,8 @@ zero-behind before behind s h =
       few = omega arith;
     } in
     decimal-reads before (behind ++ 48 ∷ []) longer
-    ∙ ap₂ (λ (l m : ℕ). Is (rounded (made 0 before * 10 ^ l + m) l)) one (made-joined 0 behind (48 ∷ []))
-    ∙ ap (λ (x : Float). Is (to_bits binary64 x)) (round_same binary64 false (made 0 before * 10 ^ suc k + (made 0 behind * 10 + 0)) (10 ^ suc k) (made 0 before * 10 ^ k + made 0 behind) (10 ^ k) (tens-pos (suc k)) (tens-pos k)
+    ∙ ap₂ (λ (l m : ℕ). Some (rounded (made 0 before * 10 ^ l + m) l)) one (made-joined 0 behind (48 ∷ []))
+    ∙ ap (λ (x : Float). Some (to_bits binary64 x)) (round_same binary64 false (made 0 before * 10 ^ suc k + (made 0 behind * 10 + 0)) (10 ^ suc k) (made 0 before * 10 ^ k + made 0 behind) (10 ^ k) (tens-pos (suc k)) (tens-pos k)
     (ap (λ (t : ℕ). (made 0 before * t + (made 0 behind * 10 + 0)) * 10 ^ k) (pow-succ' 10 k) ∙ tenfold (made 0 before) (made 0 behind) (10 ^ k) ∙ ap (λ (t : ℕ). (made 0 before * 10 ^ k + made 0 behind) * t) (sym (pow-succ' 10 k))))
     ∙ sym (decimal-reads before behind s)
   where
@@ -370,6 +368,6 @@ whole-zeros before k ds some h =
       few = omega arith;
     } in
     decimal-reads before (replicate l 48) shaped
-    ∙ ap₂ (λ (z m : ℕ). Is (rounded (n * 10 ^ z + m) z)) long (made-zeros l)
-    ∙ ap (λ (x : Float). Is (to_bits binary64 x)) (round_same binary64 false (n * 10 ^ l + 0) (10 ^ l) n 1 (tens-pos l) (pow_pos 0) (simp (mul-one, add-zero)))
+    ∙ ap₂ (λ (z m : ℕ). Some (rounded (n * 10 ^ z + m) z)) long (made-zeros l)
+    ∙ ap (λ (x : Float). Some (to_bits binary64 x)) (round_same binary64 false (n * 10 ^ l + 0) (10 ^ l) n 1 (tens-pos l) (pow_pos 0) (simp (mul-one, add-zero)))
     ∙ sym (time-whole before (short-bits before (omega arith)) (le-ltb (text_span before) (length before) (omega (arith, span-whole ds))) ∙ ap ticks (number-some 0x20_0000_0000_0000 before (λ e. omega arith) ∙ numeral-made 0x20_0000_0000_0000 0 ds (omega (arith, digits-few before ds (omega arith)))))

@@ -1,10 +1,23 @@
 -- The laws of the comparison of a word with a text, byte by byte. Assumes nothing.
-use Rattle.std.specs.Prelude.{ℕ, suc, ◌+◌, ◌≤◌, ◌<◌, ◌≡◌, refl, Bool, true, false, List, [], ◌∷◌, eqb, length, get_or, drop, if◌then◌else◌}
+use Rattle.std.specs.Prelude.{ℕ, suc, ◌+◌, ◌≤◌, ◌<◌, ◌≡◌, refl, Bool, true, false, ◌&&◌, List, [], ◌∷◌, eqb, length, get_or, drop, if◌then◌else◌}
 use Rattle.std.proofs.Common.{ap, add-one}
 use borrow.Author.Tests.{eq-eqb, ne_eqb}
+use lib.Pointwise.{pointwise}
 use Rattle.std.proofs.Math.ListN.{drop_of_length-le}
 use Rattle.std.proofs.Math.Seq.{drop-cons}
 use Rattle.bench_words.specs.Texts.{same}
+
+-- what `==` says of two slices
+pub pointwise-same : (xs ys : List ℕ) → pointwise eqb xs ys ≡ same xs ys
+unfolding same
+pointwise-same [] [] = refl
+pointwise-same [] (y ∷ ys) = refl
+pointwise-same (x ∷ xs) [] = refl
+pointwise-same (x ∷ xs) (y ∷ ys) = both (eqb x y) (pointwise-same xs ys)
+  where
+    both : (t : Bool) {u v : Bool} → u ≡ v → t && u ≡ (if t then v else false)
+    both true e = e
+    both false e = refl
 
 if-false : (t : Bool) → (if t then false else false) ≡ false
 if-false true = refl
