@@ -1,24 +1,24 @@
 -- Words against those that were told. Definitions only. Assumes nothing.
-use Rattle.std.specs.Prelude.{ℕ, suc, Bool, true, false, List, [], ◌∷◌, length, take, drop, eqb, ltb, if◌then◌else◌}
-use Rattle.judging.specs.declared.Seen.{Seen}
-use Rattle.judging.specs.declared.Seen.TheVariants.{Same, Answer, State, Wrong}
+use Rattle.std.specs.Prelude.{ℕ, Bool, true, false, List, length, take, drop, ◌==◌, eqb, ltb, Result, Ok, Err}
+use Rattle.std.specs.List.{zip, prefix_len, list_all}
+use Rattle.judging.specs.declared.Differs.{Differs}
+use Rattle.judging.specs.declared.Differs.TheVariants.{Answer, State, Wrong}
+
+-- nothing differs, or where it differs first
+abbrev pub Seen : Type 0
+Seen = Result Unit Differs
 
 abbrev pub is_same : Seen → Bool
-is_same Same = true
-is_same (Answer place) = false
-is_same (State place) = false
-is_same Wrong = false
+is_same (Ok u) = true
+is_same (Err differs) = false
 
 -- how many of the first words are the others' first, up to the first that differs
-unfoldable pub alike : List ℕ → List ℕ → ℕ
-alike [] ys = 0
-alike (x ∷ xs) [] = 0
-alike (x ∷ xs) (y ∷ ys) = let more = alike xs ys in if eqb x y then suc more else 0
+abbrev pub alike : List ℕ → List ℕ → ℕ
+alike xs ys = prefix_len (λ p. p.0 == p.1) (zip xs ys)
 
 -- every word is as it was lent
-unfoldable pub untouched : List ℕ → Bool
-untouched [] = true
-untouched (x ∷ xs) = let rest = untouched xs in if eqb x 11936128518282651045 then rest else false
+abbrev pub untouched : List ℕ → Bool
+untouched xs = list_all (λ x. x == 11936128518282651045) xs
 
 abbrev pub pick : Bool → Seen → Seen → Seen
 pick true a b = a
@@ -27,10 +27,10 @@ pick false a b = b
 -- some words, as many as there are; the first that is not as told; the first behind them, where one was written there
 abbrev pub answer_seen : List ℕ → ℕ → List ℕ → Seen
 answer_seen words count said =
-    pick (eqb count 0) Wrong
-    (pick (ltb (length words) count) Wrong
-    (pick (ltb (alike (take count words) said) count) (Answer (alike (take count words) said))
-    (pick (untouched (drop count words)) Same (Answer count))))
+    pick (eqb count 0) (Err Wrong)
+    (pick (ltb (length words) count) (Err Wrong)
+    (pick (ltb (alike (take count words) said) count) (Err (Answer (alike (take count words) said)))
+    (pick (untouched (drop count words)) (Ok tt) (Err (Answer count)))))
 
 abbrev pub state_seen : List ℕ → List ℕ → Seen
-state_seen words told = pick (ltb (alike words told) (length words)) (State (alike words told)) Same
+state_seen words told = pick (ltb (alike words told) (length words)) (Err (State (alike words told))) (Ok tt)

@@ -1,7 +1,7 @@
 // What a call left in lent words, against what was told of it.
 #![tactic(auto)]
 
-ghost use Rattle.std.specs.Prelude.{◌≡◌, not};
+ghost use Rattle.std.specs.Prelude.{◌≡◌};
 ghost use Rattle.judging.specs.Seeing.{is_same, alike, untouched, answer_seen, state_seen};
 
 // What lent words hold before a call writes them.
@@ -9,82 +9,60 @@ pub const BEFORE: u64 = 0xa5a5_a5a5_a5a5_a5a5;
 
 // Where a call differs first.
 #[derive(Clone, Copy)]
-pub enum Seen {
-    Same,
+pub enum Differs {
     Answer(usize),
     State(usize),
     Wrong,
 }
 
-pub fn is_same(seen: Seen) -> bool
+pub fn is_same(seen: Result<(), Differs>) -> bool
     ensures { result ≡ is_same seen }
 {
-    match seen {
-        Seen::Same => true,
-        Seen::Answer(_) => false,
-        Seen::State(_) => false,
-        Seen::Wrong => false,
-    }
+    seen.is_ok()
 }
 
 // The first place at which words differ from others; their length where they do not.
 fn difference(words: &[u64], others: &[u64]) -> usize
     ensures { result ≡ alike words.now others.now }
 {
-    let mut at = 0;
-    while at < words.len() {
-        if others.len() <= at {
-            return at;
-        }
-        if words[at] != others[at] {
-            return at;
-        }
-        at += 1;
-    }
-    at
+    words
+        .iter()
+        .zip(others)
+        .take_while(|(word, other)| **word == **other)
+        .count()
 }
 
-// Whether a word was written.
-fn is_written(words: &[u64]) -> bool
-    ensures { result ≡ not (untouched words.now) }
+// Whether no word was written.
+fn is_untouched(words: &[u64]) -> bool
+    ensures { result ≡ untouched words.now }
 {
-    let mut at = 0;
-    while at < words.len() {
-        if words[at] != BEFORE {
-            return true;
-        }
-        at += 1;
-    }
-    false
+    words.iter().all(|word| *word == BEFORE)
 }
 
 // An answer of so many words: what was told begins with them, and behind them nothing was written.
-pub fn answer(answer: &[u64], count: usize, said: &[u64]) -> Seen
+pub fn answer(answer: &[u64], count: usize, said: &[u64]) -> Result<(), Differs>
     ensures { result ≡ answer_seen answer.now count said.now }
 {
-    if count == 0 {
-        return Seen::Wrong;
-    }
-    if answer.len() < count {
-        return Seen::Wrong;
+    if count == 0 || answer.len() < count {
+        return Err(Differs::Wrong);
     }
     let place = difference(&answer[0..count], said);
     if place < count {
-        return Seen::Answer(place);
+        return Err(Differs::Answer(place));
     }
-    if is_written(&answer[count..]) {
-        return Seen::Answer(count);
+    if !is_untouched(&answer[count..]) {
+        return Err(Differs::Answer(count));
     }
-    Seen::Same
+    Ok(())
 }
 
 // A state: what was told begins with it.
-pub fn state(state: &[u64], told: &[u64]) -> Seen
+pub fn state(state: &[u64], told: &[u64]) -> Result<(), Differs>
     ensures { result ≡ state_seen state.now told.now }
 {
     let place = difference(state, told);
     if place < state.len() {
-        return Seen::State(place);
+        return Err(Differs::State(place));
     }
-    Seen::Same
+    Ok(())
 }

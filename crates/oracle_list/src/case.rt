@@ -2,7 +2,7 @@
 ghost use Rattle.std.specs.Prelude.{◌≤◌, length, IfOk};
 
 use crate::{calls, lines, say, sheets};
-use judging::Seen;
+use judging::Differs;
 use std::io;
 
 #[derive(Clone, Copy)]
@@ -29,18 +29,18 @@ fn begin(asked: &[u64], said: &[u64], told: &mut [u64], count: usize) -> usize {
 }
 
 // The state, after the changes that the oracle says.
-fn left(state: &[u64], told: &mut [u64], changes: &[u64]) -> Seen {
+fn left(state: &[u64], told: &mut [u64], changes: &[u64]) -> Result<(), Differs> {
     if !sheets::change(told, changes) {
-        return Seen::Wrong;
+        return Err(Differs::Wrong);
     }
     judging::state(state, told)
 }
 
 // The state after a call whose answer is the oracle's.
-fn after(asked: &[u64], said: &[u64], state: &[u64], told: &mut [u64], count: usize) -> Seen {
+fn after(asked: &[u64], said: &[u64], state: &[u64], told: &mut [u64], count: usize) -> Result<(), Differs> {
     let used = begin(asked, said, told, count);
     if said.len() < used {
-        return Seen::Wrong;
+        return Err(Differs::Wrong);
     }
     left(state, told, &said[used..])
 }
@@ -52,14 +52,11 @@ fn make(
     state: &mut [u64],
     told: &mut [u64],
     services: &[f64],
-) -> Seen {
+) -> Result<(), Differs> {
     let mut answer = [judging::BEFORE; 4096];
     let count = calls::make(asked, said, state, services, &mut answer);
-    let seen = judging::answer(&answer, count, said);
-    if judging::is_same(seen) {
-        return after(asked, said, state, told, count);
-    }
-    seen
+    judging::answer(&answer, count, said)?;
+    after(asked, said, state, told, count)
 }
 
 // The first call of a text: its line, and the line of its answer. Where the next begins; 0 where it differs, and then it was said.
@@ -129,7 +126,7 @@ fn lay_times(times: &mut [f64], bits: &[u64]) {
 
 // A case that does not begin as cases do.
 fn wrong(rt: &impl Print, case: u64) -> io::Result<Replayed> {
-    say::differs(rt, case, 0, Seen::Wrong)?;
+    say::differs(rt, case, 0, Differs::Wrong)?;
     Ok(Replayed {
         calls: 0,
         differs: true,

@@ -1,6 +1,6 @@
 // What the replay writes to standard output.
 use crate::list::Total;
-use judging::Seen;
+use judging::Differs;
 use std::io;
 
 fn text(rt: &impl Print, bytes: &[u8]) -> io::Result<()> {
@@ -12,25 +12,24 @@ fn number(rt: &impl Print, n: u64) -> io::Result<()> {
 }
 
 // Where a call differs, counted from 0.
-fn place(rt: &impl Print, seen: Seen) -> io::Result<()> {
+fn place(rt: &impl Print, seen: Differs) -> io::Result<()> {
     match seen {
-        Seen::Same => Ok(()),
-        Seen::Answer(place) => {
+        Differs::Answer(place) => {
             text(rt, b": number ")?;
             number(rt, place as u64)?;
             text(rt, b" of its answer")
         }
-        Seen::State(place) => {
+        Differs::State(place) => {
             text(rt, b": word ")?;
             number(rt, place as u64)?;
             text(rt, b" of the state")
         }
-        Seen::Wrong => text(rt, b": no such call, or the oracle's answer is cut short"),
+        Differs::Wrong => text(rt, b": no such call, or the oracle's answer is cut short"),
     }
 }
 
 // A call that differs; 0 stands for the case's first line.
-pub(crate) fn differs(rt: &impl Print, case: u64, call: u64, seen: Seen) -> io::Result<()> {
+pub(crate) fn differs(rt: &impl Print, case: u64, call: u64, seen: Differs) -> io::Result<()> {
     text(rt, b"case ")?;
     number(rt, case)?;
     text(rt, b", call ")?;
@@ -40,11 +39,16 @@ pub(crate) fn differs(rt: &impl Print, case: u64, call: u64, seen: Seen) -> io::
 }
 
 // Whether a call is the same; one that is not is said.
-pub(crate) fn is_same(rt: &impl Print, case: u64, call: u64, seen: Seen) -> io::Result<bool> {
-    if judging::is_same(seen) {
+pub(crate) fn is_same(
+    rt: &impl Print,
+    case: u64,
+    call: u64,
+    seen: Result<(), Differs>,
+) -> io::Result<bool> {
+    let Err(place) = seen else {
         return Ok(true);
-    }
-    differs(rt, case, call, seen)?;
+    };
+    differs(rt, case, call, place)?;
     Ok(false)
 }
 
