@@ -20,15 +20,15 @@ returns-in-Job c =
     let all = job-in-place a.model (begin_in m a.row) m a.row c.requires.0 c.go_in_place-gone.result c.go_in_place-gone.ensures
     a.at (a.at + 64) _ c.put_out.new.mem c.store_stopwatch.new.mem c.requires.1 room (omega arith) c.in-Job.is c.put_out.ensures c.store_stopwatch.ensures in record { gives = all.0; owns = all.1 }
 
-pub returns-in-None : goal.returns-in-None
-returns-in-None c =
+pub returns-in-Nothing : goal.returns-in-Nothing
+returns-in-Nothing c =
     let a = c.args in
     let m = a.mem.now in
     let all = nothing-in-place a.model (begin_in m a.row) m a.row c.requires.0 c.go_in_place-gone.result c.go_in_place-gone.ensures
-    a.at (a.at + 64) c.store_stopwatch-in-None.new.mem c.in-None.is c.store_stopwatch-in-None.ensures in record { gives = all.0; owns = all.1 }
+    a.at (a.at + 64) c.store_stopwatch-in-Nothing.new.mem c.in-Nothing.is c.store_stopwatch-in-Nothing.ensures in record { gives = all.0; owns = all.1 }
 
-pub returns-in-Err : goal.returns-in-Err
-returns-in-Err c =
+pub returns-in-Refused : goal.returns-in-Refused
+returns-in-Refused c =
     let a = c.args in
     let m = a.mem.now in
-    record { gives = absurd (never-refused a.model (begin_in m a.row) m a.row c.requires.0 c.go_in_place-gone.result c.go_in_place-gone.ensures _ c.in-Err.is); owns = absurd (never-refused a.model (begin_in m a.row) m a.row c.requires.0 c.go_in_place-gone.result c.go_in_place-gone.ensures _ c.in-Err.is) }
+    record { gives = absurd (never-refused a.model (begin_in m a.row) m a.row c.requires.0 c.go_in_place-gone.result c.go_in_place-gone.ensures _ c.in-Refused.is); owns = absurd (never-refused a.model (begin_in m a.row) m a.row c.requires.0 c.go_in_place-gone.result c.go_in_place-gone.ensures _ c.in-Refused.is) }
