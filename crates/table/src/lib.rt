@@ -12,7 +12,7 @@ ghost use Rattle.table.specs.Judging as Judging;
 ghost use Rattle.table.specs.Rising.{AtMost};
 
 use rules::{Batcher, Metric, Processor, Stopwatch};
-use words::{Cell, Key};
+use words::Cell;
 
 // The words of a model row, of a connector and of a coupling.
 pub const MODEL_WIDTH: usize = 10;
@@ -268,15 +268,8 @@ pub fn depth_at(models: &[u64], row: usize) -> usize
 pub fn row_with(models: &[u64], rows: usize, id: u64, at: usize, value: u64) -> Option<usize>
     ensures { result ≡ next_row (id_and id at value) Layout.model_width 0 rows models.now }
 {
-    let named = Cell { at: 0, value: id };
-    let held = Cell { at, value };
-    let key = Key {
-        first: named,
-        second: held,
-        third: held,
-        fourth: held,
-    };
-    words::next_row(models, MODEL_WIDTH, 0, rows, key)
+    let key = [Cell { at: 0, value: id }, Cell { at, value }];
+    words::next_row(models, MODEL_WIDTH, 0, rows, &key)
 }
 
 // Whether one of the first `rows` rows has the id, and the value in the cell.
