@@ -1,5 +1,5 @@
 -- Which rows of a lent table match, by the layout and the rules' own tests, and what a search for them answers and looks at. Definitions only. Assumes nothing.
-use Rattle.std.specs.Prelude.{ℕ, zero, suc, ◌+◌, ◌-◌, ◌/◌, ◌≡◌, Bool, true, false, ◌&&◌, List, [], ◌∷◌, length, eqb, if◌then◌else◌, None, Some}
+use Rattle.std.specs.Prelude.{ℕ, zero, suc, ◌+◌, ◌-◌, ◌/◌, ◌≡◌, Bool, true, false, ◌&&◌, List, [], ◌∷◌, length, eqb, if◌then◌else◌, Option as Answer, None, Some}
 use Rattle.std.proofs.Math.Option.{Option, none, some}
 use Rattle.rules.specs.Table.{Connector, Coupling, input_of, output_of, internal_of, is_parent, is_parentless}
 use Rattle.rules.specs.Layout.{cell, model_width, connector_width, coupling_width, parent_in, coupling_in}
@@ -8,7 +8,6 @@ use Rattle.table.specs.Passed.{connector_at}
 use Rattle.words.specs.Search.{first_from}
 use Rattle.selection.specs.declared.Target.{Target}
 use Rattle.selection.specs.declared.Link.{Link}
-use Rattle.selection.specs.declared.Link.TheVariants as link
 
 -- the whole rows
 abbrev pub rows_in : List ℕ → ℕ
@@ -36,14 +35,14 @@ abbrev pub lead_at : List ℕ → ℕ → Target
 lead_at connectors k = lead_of (connector_at connectors k)
 
 -- ---- what a search for a connector answers, and which places it looks at
-abbrev pub seen_of : Bool → Target → Option Target
+abbrev pub seen_of : Bool → Target → Answer Target
 seen_of true to = Some to
 seen_of false to = None
 
 -- the place that was found, with where it leads
-abbrev pub link_of : (ℕ → Target) → Option ℕ → Link
-link_of lead (Some k) = link.At k (lead k)
-link_of lead None = link.Nothing
+abbrev pub link_of : (ℕ → Target) → Answer ℕ → Answer Link
+link_of lead (Some k) = Some (record { place = k; target = lead k })
+link_of lead None = None
 
 -- of the n places from k on, those that are looked at: up to the first that passes the test, and it
 abbrev pub looks : (ℕ → Bool) → ℕ → ℕ → List ℕ
@@ -51,7 +50,7 @@ looks test k zero = []
 looks test k (suc n) = let rest = looks test (suc k) n in k ∷ (if test k then [] else rest)
 
 -- `looked` of the `count` places have been looked at: the first of the others that passes the test is found, with one look at each place up to it, and `after` have been looked at then
-pub record Finds (test : ℕ → Bool) (lead : ℕ → Target) (count looked : ℕ) (r : Link) (after : ℕ) : Type 0 where
+pub record Finds (test : ℕ → Bool) (lead : ℕ → Target) (count looked : ℕ) (r : Answer Link) (after : ℕ) : Type 0 where
   pub is : r ≡ link_of lead (first_from test looked (count - looked))
   pub once : after ≡ looked + length (looks test looked (count - looked))
 

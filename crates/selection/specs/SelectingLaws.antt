@@ -1,5 +1,5 @@
 -- The tests of the words that the searches make are the rules' own. Assumes nothing.
-use Rattle.std.specs.Prelude.{ℕ, zero, suc, ◌+◌, ◌-◌, ◌*◌, ◌/◌, ◌%◌, ◌≤◌, ◌<◌, ◌≡◌, refl, Bool, true, false, ◌&&◌, not, List, length, get_or, take, drop, eqb, if◌then◌else◌}
+use Rattle.std.specs.Prelude.{ℕ, zero, suc, ◌+◌, ◌-◌, ◌*◌, ◌/◌, ◌%◌, ◌≤◌, ◌<◌, ◌≡◌, refl, Bool, true, false, ◌&&◌, not, List, length, get_or, take, drop, eqb, if◌then◌else◌, Option as Answer, None, Some}
 use Rattle.std.proofs.Common.{sym, ap, ◌∙◌, arith, add_assoc, div-one, div-lt_iff_lt-mul, div-mul-le_self, mod-lt, mul-le-mul_right, eqb-true, drop_of_length-le, lit<}
 use Rattle.std.proofs.Math.Option.{Option, none, some}
 use Rattle.std.proofs.Math.Seq.{take-nil}
@@ -12,6 +12,7 @@ use Rattle.words.specs.SearchLaws.{cells-inside, next-row-first, first-ext}
 use Rattle.table.specs.Readers.{row_of}
 use Rattle.table.specs.Passed.{connector_of}
 use Rattle.table.specs.Rows.{row-cell}
+use Rattle.selection.specs.declared.Target.{Target}
 use Rattle.selection.specs.Selecting.{rows_in, couplings_in, comes_from, connects, lead_of, lead_at, seen_of, is_some, chosen_of, is_input, is_output, is_internal, is_component, is_free, has_id, target_in}
 
 -- ---- what the private functions make and test
@@ -26,12 +27,10 @@ abbrev pub coupling_key : ℕ → ℕ → ℕ → ℕ → ℕ → Key
 coupling_key kind owner at source port =
     record { first = cell_with 0 owner; second = cell_with 1 kind; third = cell_with at source; fourth = cell_with 3 port }
 
--- the row k has a parent or has none, as `given` says, and it is this one
-abbrev pub child_at : ℕ → ℕ → List ℕ → ℕ → Bool
-child_at given parent models k =
-    if eqb (cell_of model_width models k 2 % 2) given
-    then (if eqb given 0 then true else eqb (cell_of model_width models k 3) parent)
-    else false
+-- the row k has this parent, or has none
+abbrev pub child_at : Answer ℕ → List ℕ → ℕ → Bool
+child_at (Some parent) models k = if eqb (cell_of model_width models k 2 % 2) 1 then eqb (cell_of model_width models k 3) parent else false
+child_at None models k = eqb (cell_of model_width models k 2 % 2) 0
 
 -- ---- a key's search is the search of any test that says the same of each row
 -- each of the key's cells holds its word
@@ -56,7 +55,7 @@ module _ (key : Key) (width : ℕ) (inside : in_row key width ≡ true) where
       ∙ first-ext _ _ from (length words / width - from) (λ k h b. sym (key-cells words k) ∙ same (row_of width words k))
 
 -- ---- connectors: what is seen in the words from the start of the row k to the next row's
-pub connector-seen : (words : List ℕ) (source port k start : ℕ) → start ≡ k * 4 → (seen : Option Target)
+pub connector-seen : (words : List ℕ) (source port k start : ℕ) → start ≡ k * 4 → (seen : Answer Target)
     → (let c = connector_of (take (start + 4 - start) (drop start words)) in seen ≡ seen_of (comes_from source port c) (lead_of c))
     → seen ≡ seen_of (connects words source port k) (lead_at words k)
 connector-seen words source port k start begins seen is =
@@ -152,25 +151,25 @@ module _ (words : List ℕ) (k : ℕ) where
   given_is : eqb (cell_of model_width words k 2 % 2) 1 ≡ is_given 1 (row_of model_width words k)
   given_is = rw (row-cell model_width words k 2 (lit< tt), div-one)
 
-  component-is : (owner : ℕ) → child_at 1 owner words k ≡ is_component words owner k
+  component-is : (owner : ℕ) → child_at (Some owner) words k ≡ is_component words owner k
   component-is owner = rw (given_is, ← row-cell model_width words k 3 (lit< tt)) (by (is_given 1 (row_of model_width words k)))
     where
       by : (t : Bool) → (if t then eqb (cell (row_of model_width words k) 3) owner else false) ≡ is_parent owner (if t then some (cell (row_of model_width words k) 3) else none)
       by true = refl
       by false = refl
 
-  free-is : child_at 0 0 words k ≡ is_free words k
+  free-is : child_at None words k ≡ is_free words k
   free-is = rw (even_is (cell_of model_width words k 2 % 2) (mod-lt _ (lit< tt)), given_is) (by (is_given 1 (row_of model_width words k)))
     where
-      by : (t : Bool) → (if not t then true else false) ≡ is_parentless (if t then some (cell (row_of model_width words k) 3) else none)
+      by : (t : Bool) → not t ≡ is_parentless (if t then some (cell (row_of model_width words k) 3) else none)
       by true = refl
       by false = refl
 
 module _ (words : List ℕ) (from : ℕ) where
-  pub component-search : (owner : ℕ) → first_from (child_at 1 owner words) from (rows_in words - from) ≡ first_from (is_component words owner) from (rows_in words - from)
+  pub component-search : (owner : ℕ) → first_from (child_at (Some owner) words) from (rows_in words - from) ≡ first_from (is_component words owner) from (rows_in words - from)
   component-search owner = first-ext _ _ from (rows_in words - from) (λ k _ _. component-is words k owner)
 
-  pub parentless-search : first_from (child_at 0 0 words) from (rows_in words - from) ≡ first_from (is_free words) from (rows_in words - from)
+  pub parentless-search : first_from (child_at None words) from (rows_in words - from) ≡ first_from (is_free words) from (rows_in words - from)
   parentless-search = first-ext _ _ from (rows_in words - from) (λ k _ _. free-is words k)
 
 -- ---- where a row leads
