@@ -35,17 +35,15 @@ pub fn lay_down(rows: &mut [u64], mem: &[u64], active: usize, count: usize)
     copy(rows, mem, active, count * 6);
 }
 
-// How many words of its own a row has. No row of a table that passed is Broken.
+// How many words of its own a row has. Each row of a table that passed has a kind.
 fn width_of(state: &[u64], row: usize) -> usize
     requires { Inside state.now × (row < length (table_in state.now).rows) }
     ensures { result ≡ width_of (kind_at (table_in state.now) row) }
 {
     match lookup::kind_of(state, row) {
-        Kind::Processor(_) => 64,
-        Kind::Batcher(_) => 64,
-        Kind::Stopwatch(_) => 192,
-        Kind::Coupled => 64,
-        Kind::Broken => 0,
+        Some(Kind::Processor(_) | Kind::Batcher(_) | Kind::Coupled) => 64,
+        Some(Kind::Stopwatch(_)) => 192,
+        None => 0,
     }
 }
 

@@ -21,7 +21,6 @@ ghost use Rattle.lookup.specs.Inside.{Inside, table_in};
 ghost use Rattle.storing.specs.State.{is_stored};
 ghost use Rattle.holding.specs.Fitting.{queue_fits, row_fits, next_if, row_end, rows_end, tail_fits, table_fits};
 
-use table::Verdict;
 
 // Whether the bits are a time's.
 fn is_time(bits: u64) -> bool
@@ -324,17 +323,12 @@ fn table_fits(state: &[u64]) -> bool
     if state.len() < tail + state[0] as usize * 196 + 1539 {
         return false;
     }
-    match table::intake(
+    table::intake(
         &state[3..connectors],
         &state[connectors..couplings],
         &state[couplings..tail],
-    ) {
-        Verdict::Passed => true,
-        Verdict::TooLarge => false,
-        Verdict::BadRow(_) => false,
-        Verdict::BadConnector(_) => false,
-        Verdict::BadCoupling(_) => false,
-    }
+    )
+        .is_ok()
 }
 
 // Whether the buffer holds a simulation: what 20 asks of a lent state.

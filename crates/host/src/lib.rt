@@ -17,7 +17,7 @@ ghost use Rattle.host.specs.Numbers.{answer_number, number_of, end_number, end_w
 use asking::Status;
 use engine::{End, Report};
 use rules::{BatcherPhase, Message, ProcessorPhase, Refusal};
-use table::Verdict;
+use table::BadTable;
 use trace_files::{Read, Written};
 
 // 0, or the refusal's number.
@@ -52,11 +52,11 @@ pub fn jt_intake(
     ensures tells { report.new ≡ intake_said (omitted_in models.now) (intake (lent models.now connectors.now couplings.now)) report.old }
 {
     match table::intake(models, connectors, couplings) {
-        Verdict::TooLarge => place(report, 0, 0, 0, 1),
-        Verdict::BadRow(row) => place(report, 1, row, 0, 2),
-        Verdict::BadConnector(row) => place(report, 2, row, 0, 3),
-        Verdict::BadCoupling(row) => place(report, 3, row, 0, 3),
-        Verdict::Passed => place(report, 0, 0, capacities::omitted(models), 0),
+        Ok(()) => place(report, 0, 0, capacities::omitted(models), 0),
+        Err(BadTable::TooLarge) => place(report, 0, 0, 0, 1),
+        Err(BadTable::Row(row)) => place(report, 1, row, 0, 2),
+        Err(BadTable::Connector(row)) => place(report, 2, row, 0, 3),
+        Err(BadTable::Coupling(row)) => place(report, 3, row, 0, 3),
     }
 }
 

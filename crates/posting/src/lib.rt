@@ -13,7 +13,7 @@ ghost use Rattle.storing.specs.Lent.{answered, post_in, left_anew};
 ghost use Rattle.posting.specs.Laying.{laid, numbered, new_from, new_rows, widths, fresh_words, table_words, front_words, Passes, Room, Fits, renewed};
 
 use rules::Refusal;
-use table::Verdict;
+use table::BadTable;
 
 // Three words from `at` on.
 fn lay_three(state: &mut [u64], at: usize, first: u64, second: u64, third: u64)
@@ -151,11 +151,10 @@ pub fn judged(models: &[u64], connectors: &[u64], couplings: &[u64]) -> Result<(
     ensures { result ≡ answered (taken_in (intake (lent models.now connectors.now couplings.now))) }
 {
     match table::intake(models, connectors, couplings) {
-        Verdict::TooLarge => Err(Refusal::TooLarge),
-        Verdict::BadRow(_) => Err(Refusal::BadRow),
-        Verdict::BadConnector(_) => Err(Refusal::BadCoupling),
-        Verdict::BadCoupling(_) => Err(Refusal::BadCoupling),
-        Verdict::Passed => Ok(()),
+        Ok(()) => Ok(()),
+        Err(BadTable::TooLarge) => Err(Refusal::TooLarge),
+        Err(BadTable::Row(_)) => Err(Refusal::BadRow),
+        Err(BadTable::Connector(_) | BadTable::Coupling(_)) => Err(Refusal::BadCoupling),
     }
 }
 

@@ -6,7 +6,6 @@ use Rattle.words.specs.Search.{first_from}
 use Rattle.words.specs.SearchLaws.{search-end, search-hit, search-skip, found-not}
 use Rattle.selection.specs.declared.Target.{Target}
 use Rattle.selection.specs.declared.Link.{Link}
-use Rattle.selection.specs.declared.Link.TheVariants as link
 use Rattle.selection.specs.Selecting.{seen_of, link_of, looks, Finds}
 
 -- ---- what one look shows
@@ -91,7 +90,7 @@ module _ (test : ℕ → Bool) (lead : ℕ → Target) (count start : ℕ) where
   looking-start = record { left = refl; once = refl }
 
   module _ (at : ℕ) (so_far : Looking at) where
-    pub looking-end : count ≤ at → Finds test lead count start link.Nothing at
+    pub looking-end : count ≤ at → Finds test lead count start None at
     looking-end past = record {
       is = ap (link_of lead) (sym (search-end test at count past) ∙ so_far.left);
       once = sym (looks-end test at count past) ∙ so_far.once;
@@ -105,32 +104,35 @@ module _ (test : ℕ → Bool) (lead : ℕ → Target) (count start : ℕ) where
           rw one
           record { left = sym (search-skip test at count below fails) ∙ so_far.left; once = sym (looks-skip test at count below fails) ∙ so_far.once }
 
-      pub looking-found : (to : Target) → seen ≡ Some to → Finds test lead count start (link.At at to) after
+      pub looking-found : (to : Target) → seen ≡ Some to → Finds test lead count start (Some (record { place = at; target = to })) after
       looking-found to found =
           let passes = seen-to (test at) (lead at) to (sym sees ∙ found) in
           record {
-            is = ap (link.At at) passes.1 ∙ ap (link_of lead) (sym (search-hit test at count below passes.0) ∙ so_far.left);
+            is = ap (λ (t : Target). Some (record { place = at; target = t })) passes.1 ∙ ap (link_of lead) (sym (search-hit test at count below passes.0) ∙ so_far.left);
             once = one ∙ ap (λ (n : ℕ). at + n) (sym (looks-hit test at count below passes.0)) ∙ so_far.once;
           }
 
 -- ---- what a caller learns from a search
-module _ (test : ℕ → Bool) (lead : ℕ → Target) (count looked : ℕ) (r : Link) (after : ℕ) (finds : Finds test lead count looked r after) where
-  pub finds-none : r ≡ link.Nothing → first_from test looked (count - looked) ≡ None
+module _ (test : ℕ → Bool) (lead : ℕ → Target) (count looked : ℕ) (r : Option Link) (after : ℕ) (finds : Finds test lead count looked r after) where
+  pub finds-none : r ≡ None → first_from test looked (count - looked) ≡ None
   finds-none h = by (first_from test looked (count - looked)) (sym h ∙ finds.is)
     where
-      by : (f : Option ℕ) → link.Nothing ≡ link_of lead f → f ≡ None
+      by : (f : Option ℕ) → None ≡ link_of lead f → f ≡ None
       by (Some k) e = absurd (let z : ◌≡◌ {A = ℕ} 0 1 = cc in omega arith)
       by None e = refl
 
   -- then all have been looked at
-  pub finds-all : looked ≤ count → r ≡ link.Nothing → after ≡ count
+  pub finds-all : looked ≤ count → r ≡ None → after ≡ count
   finds-all within none = finds.once ∙ rw (looks-all test looked (count - looked) (finds-none none)) (omega arith)
 
-  pub finds-at : (j : ℕ) (to : Target) → r ≡ link.At j to → (first_from test looked (count - looked) ≡ Some j) × (to ≡ lead j) × (after ≡ j + 1)
+  pub finds-at : (j : ℕ) (to : Target) → r ≡ Some (record { place = j; target = to }) → (first_from test looked (count - looked) ≡ Some j) × (to ≡ lead j) × (after ≡ j + 1)
   finds-at j to h =
       let found = by (first_from test looked (count - looked)) (sym h ∙ finds.is) in
       (found.0, found.1, finds.once ∙ looks-at test looked (count - looked) j found.0)
     where
-      by : (f : Option ℕ) → link.At j to ≡ link_of lead f → (f ≡ Some j) × (to ≡ lead j)
-      by (Some k) e = let same : j ≡ k = cc in let leads : to ≡ lead k = cc in (ap Some (sym same), leads ∙ ap lead (sym same))
+      by : (f : Option ℕ) → Some (record { place = j; target = to }) ≡ link_of lead f → (f ≡ Some j) × (to ≡ lead j)
+      by (Some k) e =
+          let link : ◌≡◌ {A = Link} (record { place = j; target = to }) (record { place = k; target = lead k }) = cc in
+          let same = ap (λ (l : Link). l.place) link in
+          (ap Some (sym same), ap (λ (l : Link). l.target) link ∙ ap lead (sym same))
       by None e = absurd (let z : ◌≡◌ {A = ℕ} 0 1 = cc in omega arith)

@@ -7,7 +7,6 @@ use Rattle.table.specs.Passed.{connector_at}
 use Rattle.words.specs.Search.{first_from}
 use Rattle.selection.specs.declared.Target.{Target}
 use Rattle.selection.specs.declared.Link.{Link}
-use Rattle.selection.specs.declared.Link.TheVariants as link
 
 -- the whole rows
 abbrev pub rows_in : List ℕ → ℕ
@@ -40,9 +39,9 @@ seen_of true to = Some to
 seen_of false to = None
 
 -- the place that was found, with where it leads
-abbrev pub link_of : (ℕ → Target) → Option ℕ → Link
-link_of lead (Some k) = link.At k (lead k)
-link_of lead None = link.Nothing
+abbrev pub link_of : (ℕ → Target) → Option ℕ → Option Link
+link_of lead (Some k) = Some (record { place = k; target = lead k })
+link_of lead None = None
 
 -- of the n places from k on, those that are looked at: up to the first that passes the test, and it
 abbrev pub looks : (ℕ → Bool) → ℕ → ℕ → List ℕ
@@ -50,7 +49,7 @@ looks test k zero = []
 looks test k (suc n) = let rest = looks test (suc k) n in k ∷ (if test k then [] else rest)
 
 -- `looked` of the `count` places have been looked at: the first of the others that passes the test is found, with one look at each place up to it, and `after` have been looked at then
-pub record Finds (test : ℕ → Bool) (lead : ℕ → Target) (count looked : ℕ) (r : Link) (after : ℕ) : Type 0 where
+pub record Finds (test : ℕ → Bool) (lead : ℕ → Target) (count looked : ℕ) (r : Option Link) (after : ℕ) : Type 0 where
   pub is : r ≡ link_of lead (first_from test looked (count - looked))
   pub once : after ≡ looked + length (looks test looked (count - looked))
 

@@ -1,13 +1,14 @@
 -- The tests of the words that the searches make are the rules' own. Assumes nothing.
-use Rattle.std.specs.Prelude.{ℕ, zero, suc, ◌+◌, ◌-◌, ◌*◌, ◌/◌, ◌%◌, ◌≤◌, ◌<◌, ◌≡◌, refl, Bool, true, false, ◌&&◌, not, List, length, get_or, take, drop, eqb, if◌then◌else◌, Option, None, Some}
-use Rattle.std.proofs.Common.{sym, ap, ◌∙◌, arith, add_assoc, div-one, div-lt_iff_lt-mul, div-mul-le_self, mod-lt, mul-le-mul_right, eqb-true, drop_of_length-le, lit<}
+use Rattle.std.specs.Prelude.{ℕ, zero, suc, ◌+◌, ◌-◌, ◌*◌, ◌/◌, ◌%◌, ◌≤◌, ◌<◌, ◌≡◌, refl, Bool, true, false, ◌&&◌, not, List, [], ◌∷◌, length, get_or, take, drop, eqb, ltb, if◌then◌else◌, Option, None, Some}
+use Rattle.std.proofs.Common.{sym, ap, ◌∙◌, arith, add_assoc, div-one, div-lt_iff_lt-mul, div-mul-le_self, mod-lt, mul-le-mul_right, eqb-true, ltb-true, drop_of_length-le, lit<}
 use Rattle.std.proofs.Math.Seq.{take-nil}
+use Rattle.std.proofs.lemmas.Bool.{false≢true}
+use Rattle.rules.specs.Base.{every}
 use Rattle.rules.specs.Table.{Coupling, external_input, external_output, internal_coupling, input_of, output_of, internal_of, is_parent, is_parentless}
 use Rattle.rules.specs.Layout.{cell, model_width, coupling_width, coupling_in, is_given}
 use Rattle.words.specs.declared.Cell.{Cell}
-use Rattle.words.specs.declared.Key.{Key}
-use Rattle.words.specs.Search.{cell_of, first_from, matches, in_row, next_row}
-use Rattle.words.specs.SearchLaws.{cells-inside, next-row-first, first-ext}
+use Rattle.words.specs.Search.{cell_of, first_from, holds_in, matches, in_row, next_row}
+use Rattle.words.specs.SearchLaws.{next-row-first, first-ext}
 use Rattle.table.specs.Readers.{row_of}
 use Rattle.table.specs.Passed.{connector_of}
 use Rattle.table.specs.Rows.{row-cell}
@@ -18,37 +19,62 @@ use Rattle.selection.specs.Selecting.{rows_in, couplings_in, comes_from, connect
 abbrev cell_with : ℕ → ℕ → Cell
 cell_with at value = record { at = at; value = value }
 
--- an id in the cell 0, said four times
-abbrev id_key : ℕ → Key
-id_key id = record { first = cell_with 0 id; second = cell_with 0 id; third = cell_with 0 id; fourth = cell_with 0 id }
+abbrev id_key : ℕ → List Cell
+id_key id = cell_with 0 id ∷ []
 
-abbrev pub coupling_key : ℕ → ℕ → ℕ → ℕ → ℕ → Key
+abbrev pub coupling_key : ℕ → ℕ → ℕ → ℕ → ℕ → List Cell
 coupling_key kind owner at source port =
-    record { first = cell_with 0 owner; second = cell_with 1 kind; third = cell_with at source; fourth = cell_with 3 port }
+    cell_with 0 owner ∷ cell_with 1 kind ∷ cell_with at source ∷ cell_with 3 port ∷ []
 
--- the row k has a parent or has none, as `given` says, and it is this one
-abbrev pub child_at : ℕ → ℕ → List ℕ → ℕ → Bool
-child_at given parent models k =
-    if eqb (cell_of model_width models k 2 % 2) given
-    then (if eqb given 0 then true else eqb (cell_of model_width models k 3) parent)
-    else false
+-- the row k has this parent, or has none
+abbrev pub child_at : Option ℕ → List ℕ → ℕ → Bool
+child_at (Some parent) models k = if eqb (cell_of model_width models k 2 % 2) 1 then eqb (cell_of model_width models k 3) parent else false
+child_at None models k = eqb (cell_of model_width models k 2 % 2) 0
 
 -- ---- a key's search is the search of any test that says the same of each row
 -- each of the key's cells holds its word
-abbrev holds_all : Key → List ℕ → Bool
-holds_all key row =
-    eqb (cell row key.first.at) key.first.value && eqb (cell row key.second.at) key.second.value
-    && eqb (cell row key.third.at) key.third.value && eqb (cell row key.fourth.at) key.fourth.value
+abbrev holds_after : Bool → List Cell → List ℕ → Bool
+holds_after so [] row = so
+holds_after so (c ∷ cs) row = holds_after (so && eqb (cell row c.at) c.value) cs row
 
-module _ (key : Key) (width : ℕ) (inside : in_row key width ≡ true) where
+abbrev holds_all : List Cell → List ℕ → Bool
+holds_all [] row = true
+holds_all (c ∷ cs) row = holds_after (eqb (cell row c.at) c.value) cs row
+
+as-if : (so : Bool) → so ≡ (if so then true else false)
+as-if true = refl
+as-if false = refl
+
+joined : (so x rest : Bool) → (if so && x then rest else false) ≡ (if so then (if x then rest else false) else false)
+joined true x rest = refl
+joined false x rest = refl
+
+if-both : (a b : Bool) → (if a then b else false) ≡ true → (a ≡ true) × (b ≡ true)
+if-both true b e = (refl, e)
+if-both false b e = elim (false≢true e) [ ]
+
+and-both : (a b : Bool) → a && b ≡ true → (a ≡ true) × (b ≡ true)
+and-both true b e = (refl, e)
+and-both false b e = elim (false≢true e) [ ]
+
+module _ (key : List Cell) (width : ℕ) (inside : in_row key width ≡ true) where
+  cells-after : (words : List ℕ) (k : ℕ) (so : Bool) (cells : List Cell) → every (λ (c : Cell). ltb c.at width) cells ≡ true → holds_after so cells (row_of width words k) ≡ (if so then every (holds_in width words k) cells else false)
+  cells-after words k so [] e = as-if so
+  cells-after words k so (c ∷ cs) e =
+      let h = if-both _ _ e in
+      let same = row-cell width words k c.at (ltb-true _ _ h.0) in
+      cells-after words k (so && eqb (cell (row_of width words k) c.at) c.value) cs h.1 ∙ joined so _ _
+      ∙ (λ i. if so then (if eqb (same i) c.value then every (holds_in width words k) cs else false) else false)
+
+  all-cells : (words : List ℕ) (k : ℕ) (cells : List Cell) → every (λ (c : Cell). ltb c.at width) cells ≡ true → holds_all cells (row_of width words k) ≡ every (holds_in width words k) cells
+  all-cells words k [] e = refl
+  all-cells words k (c ∷ cs) e =
+      let h = if-both _ _ e in
+      let same = row-cell width words k c.at (ltb-true _ _ h.0) in
+      cells-after words k (eqb (cell (row_of width words k) c.at) c.value) cs h.1 ∙ (λ i. if eqb (same i) c.value then every (holds_in width words k) cs else false)
+
   key-cells : (words : List ℕ) (k : ℕ) → holds_all key (row_of width words k) ≡ matches key width words k
-  key-cells words k =
-      let at = cells-inside key width inside in
-      λ i.
-      eqb (row-cell width words k key.first.at at.0 i) key.first.value
-      && eqb (row-cell width words k key.second.at at.1 i) key.second.value
-      && eqb (row-cell width words k key.third.at at.2 i) key.third.value
-      && eqb (row-cell width words k key.fourth.at at.3 i) key.fourth.value
+  key-cells words k = all-cells words k key (and-both _ _ inside).1
 
   search_is : (test : List ℕ → Bool) → ((row : List ℕ) → holds_all key row ≡ test row) → (words : List ℕ) (from : ℕ) → next_row key width from (length words / width) words ≡ first_from (λ k. test (row_of width words k)) from (length words / width - from)
   search_is test same words from =
@@ -72,8 +98,7 @@ and_again false b = refl
 
 pub id-search : (words : List ℕ) (from id : ℕ) → next_row (id_key id) model_width from (rows_in words) words ≡ first_from (has_id words id) from (rows_in words - from)
 id-search words from id =
-    search_is (id_key id) model_width refl (λ row. eqb (cell row 0) id)
-    (λ row. let s = eqb (cell row 0) id in and_again (s && s) s ∙ and_again s s ∙ and_again true s) words from
+    search_is (id_key id) model_width refl (λ row. eqb (cell row 0) id) (λ row. refl) words from
 
 -- ---- couplings: a kind is one of the three or none
 pub kinds : (x : ℕ) (P : Bool → Bool → Bool → Type 0) → P true false false → P false true false → P false false true → P false false false → P (eqb x 1) (eqb x 2) (eqb x 3)
@@ -152,25 +177,25 @@ module _ (words : List ℕ) (k : ℕ) where
   given_is : eqb (cell_of model_width words k 2 % 2) 1 ≡ is_given 1 (row_of model_width words k)
   given_is = rw (row-cell model_width words k 2 (lit< tt), div-one)
 
-  component-is : (owner : ℕ) → child_at 1 owner words k ≡ is_component words owner k
+  component-is : (owner : ℕ) → child_at (Some owner) words k ≡ is_component words owner k
   component-is owner = rw (given_is, ← row-cell model_width words k 3 (lit< tt)) (by (is_given 1 (row_of model_width words k)))
     where
       by : (t : Bool) → (if t then eqb (cell (row_of model_width words k) 3) owner else false) ≡ is_parent owner (if t then Some (cell (row_of model_width words k) 3) else None)
       by true = refl
       by false = refl
 
-  free-is : child_at 0 0 words k ≡ is_free words k
+  free-is : child_at None words k ≡ is_free words k
   free-is = rw (even_is (cell_of model_width words k 2 % 2) (mod-lt _ (lit< tt)), given_is) (by (is_given 1 (row_of model_width words k)))
     where
-      by : (t : Bool) → (if not t then true else false) ≡ is_parentless (if t then Some (cell (row_of model_width words k) 3) else None)
+      by : (t : Bool) → not t ≡ is_parentless (if t then Some (cell (row_of model_width words k) 3) else None)
       by true = refl
       by false = refl
 
 module _ (words : List ℕ) (from : ℕ) where
-  pub component-search : (owner : ℕ) → first_from (child_at 1 owner words) from (rows_in words - from) ≡ first_from (is_component words owner) from (rows_in words - from)
+  pub component-search : (owner : ℕ) → first_from (child_at (Some owner) words) from (rows_in words - from) ≡ first_from (is_component words owner) from (rows_in words - from)
   component-search owner = first-ext _ _ from (rows_in words - from) (λ k _ _. component-is words k owner)
 
-  pub parentless-search : first_from (child_at 0 0 words) from (rows_in words - from) ≡ first_from (is_free words) from (rows_in words - from)
+  pub parentless-search : first_from (child_at None words) from (rows_in words - from) ≡ first_from (is_free words) from (rows_in words - from)
   parentless-search = first-ext _ _ from (rows_in words - from) (λ k _ _. free-is words k)
 
 -- ---- where a row leads

@@ -8,20 +8,23 @@ ghost use Rattle.words.specs.Search.{first_from, next_row};
 ghost use Rattle.selection.specs.Selecting.{connects, is_input, is_output, is_internal, is_component, is_free, has_id, comes_from, lead_of, lead_at, target_in, seen_of, Finds, connectors_in, couplings_in, rows_in};
 ghost use Rattle.selection.specs.SelectingLaws.{coupling_key, child_at};
 
-use words::{Cell, Key};
+use table::{
+    CONNECTOR_WIDTH, COUPLING_WIDTH, EXTERNAL_INPUT, EXTERNAL_OUTPUT, INTERNAL, MODEL_WIDTH,
+};
+use words::Cell;
 
 // A component's id, or a model's, with a port of it.
-#[derive(Clone, Copy)]
+#[derive(Clone, Copy, Debug, PartialEq, Eq)]
 pub struct Target {
     pub id: u64,
     pub port: u64,
 }
 
-// A connector that matches: its place, and where it leads. Or there is none.
-#[derive(Clone, Copy)]
-pub enum Link {
-    At(usize, Target),
-    Nothing,
+// A connector that matches: its place, and where it leads.
+#[derive(Clone, Copy, Debug, PartialEq, Eq)]
+pub struct Link {
+    pub place: usize,
+    pub target: Target,
 }
 
 // A look at one connector: where it leads, if it comes from this id and port. It is lent no other row, names each word once, and counts itself.
@@ -55,128 +58,144 @@ fn next_coupling(
 ) -> Option<usize>
     ensures { result ≡ next_row (coupling_key kind owner at source port) 6 from (couplings_in couplings.now) couplings.now }
 {
-    let key = Key {
-        first: Cell {
+    let key = [
+        Cell {
             at: 0,
             value: owner,
         },
-        second: Cell { at: 1, value: kind },
-        third: Cell { at, value: source },
-        fourth: Cell { at: 3, value: port },
-    };
-    words::next_row(couplings, 6, from, couplings.len() / 6, key)
+        Cell { at: 1, value: kind },
+        Cell { at, value: source },
+        Cell { at: 3, value: port },
+    ];
+    words::next_row(
+        couplings,
+        COUPLING_WIDTH,
+        from,
+        couplings.len() / COUPLING_WIDTH,
+        &key,
+    )
 }
 
-// The row's parent is the one asked for: where `given` is 1, `parent`; where it is 0, none, and the parent's cell is not looked at.
-fn is_child(models: &[u64], row: usize, given: u64, parent: u64) -> bool
+// The row's parent is the one asked for. Where none is, the parent's cell is not looked at.
+fn is_child(models: &[u64], row: usize, parent: Option<u64>) -> bool
     requires { row < rows_in models.now }
-    ensures { result ≡ child_at given parent models.now row }
+    ensures { result ≡ child_at parent models.now row }
 {
-    let start = row * 10;
-    if models[start + 2] % 2 != given {
-        return false;
+    let start = row * MODEL_WIDTH;
+    match parent {
+        Some(owner) => models[start + 2] % 2 == 1 && models[start + 3] == owner,
+        None => models[start + 2] % 2 == 0,
     }
-    if given == 0 {
-        return true;
-    }
-    models[start + 3] == parent
 }
 
 // The next row whose parent is the one asked for.
-fn next_child(models: &[u64], from: usize, given: u64, parent: u64) -> Option<usize>
-    ensures { result ≡ first_from (child_at given parent models.now) from (rows_in models.now - from) }
+#[tactic(auto, using(crate::proofs::Searches::steps))]
+fn next_child(models: &[u64], from: usize, parent: Option<u64>) -> Option<usize>
+    ensures { result ≡ first_from (child_at parent models.now) from (rows_in models.now - from) }
 {
-    let end = models.len() / 10;
-    let mut row = from;
-    while row < end {
-        if is_child(models, row, given, parent) {
+    for row in from..models.len() / MODEL_WIDTH {
+        if is_child(models, row, parent) {
             return Some(row);
         }
-        row += 1;
     }
     None
 }
 
-// The next connector from this id and port, with where it leads, or Nothing. `looked` is how many have been looked at: the search goes on there.
-// The loop ends by `start`, the place times 4: ended by the place itself, it came out slower.
-pub fn next_connector(connectors: &[u64], looked: &mut usize, source: u64, port: u64) -> Link
+// The next connector from this id and port, with where it leads. `looked` is how many have been looked at: the search goes on there.
+// kept: the loop counts `start`, the place times 4, by hand; ended by the place itself, it came out slower.
+pub fn next_connector(
+    connectors: &[u64],
+    looked: &mut usize,
+    source: u64,
+    port: u64,
+) -> Option<Link>
     ensures { Finds (connects connectors.now source port) (lead_at connectors.now) (connectors_in connectors.now) looked.old result looked.new }
 {
-    let in_use = connectors.len() / 4;
+    let in_use = connectors.len() / CONNECTOR_WIDTH;
     if in_use <= *looked {
-        return Link::Nothing;
+        return None;
     }
-    let end = in_use * 4;
-    let mut start = *looked * 4;
+    let end = in_use * CONNECTOR_WIDTH;
+    let mut start = *looked * CONNECTOR_WIDTH;
     while start < end {
         let place = *looked;
-        let next = start + 4;
+        let next = start + CONNECTOR_WIDTH;
         match look_at(&connectors[start..next], looked, source, port) {
-            Some(target) => return Link::At(place, target),
+            Some(target) => return Some(Link { place, target }),
             None => start = next,
         }
     }
-    Link::Nothing
+    None
 }
 
-// The next external input coupling of this owner, at this port, or Nothing.
+// The next external input coupling of this owner, at this port.
+#[tactic(auto, using(crate::proofs::Searches::couplings))]
 pub fn next_input(couplings: &[u64], from: usize, owner: u64, port: u64) -> Option<usize>
     ensures { result ≡ first_from (is_input couplings.now owner port) from (couplings_in couplings.now - from) }
 {
-    next_coupling(couplings, from, 1, owner, 3, port, port)
+    next_coupling(couplings, from, EXTERNAL_INPUT, owner, 3, port, port)
 }
 
-// The next external output coupling of this owner, from this component's port, or Nothing.
-pub fn next_output(couplings: &[u64], from: usize, owner: u64, source: u64, port: u64) -> Option<usize>
+// The next external output coupling of this owner, from this component's port.
+#[tactic(auto, using(crate::proofs::Searches::couplings))]
+pub fn next_output(
+    couplings: &[u64],
+    from: usize,
+    owner: u64,
+    source: u64,
+    port: u64,
+) -> Option<usize>
     ensures { result ≡ first_from (is_output couplings.now owner source port) from (couplings_in couplings.now - from) }
 {
-    next_coupling(couplings, from, 2, owner, 2, source, port)
+    next_coupling(couplings, from, EXTERNAL_OUTPUT, owner, 2, source, port)
 }
 
-// The next internal coupling of this owner, from this component's port, or Nothing.
-pub fn next_internal(couplings: &[u64], from: usize, owner: u64, source: u64, port: u64) -> Option<usize>
+// The next internal coupling of this owner, from this component's port.
+#[tactic(auto, using(crate::proofs::Searches::couplings))]
+pub fn next_internal(
+    couplings: &[u64],
+    from: usize,
+    owner: u64,
+    source: u64,
+    port: u64,
+) -> Option<usize>
     ensures { result ≡ first_from (is_internal couplings.now owner source port) from (couplings_in couplings.now - from) }
 {
-    next_coupling(couplings, from, 3, owner, 2, source, port)
+    next_coupling(couplings, from, INTERNAL, owner, 2, source, port)
 }
 
 // Where a coupling leads. Words past the end read 0.
 pub fn coupling_target(couplings: &[u64], row: usize) -> Target
     ensures { result ≡ target_in 6 4 couplings.now row }
 {
-    if couplings.len() / 6 < row {
-        return Target { id: 0, port: 0 };
+    let cells = table::row_of(couplings, COUPLING_WIDTH, row);
+    Target {
+        id: words::word_at(cells, 4),
+        port: words::word_at(cells, 5),
     }
-    let place = row * 6 + 4;
-    let id = words::word_at(couplings, place);
-    let port = words::word_at(couplings, place + 1);
-    Target { id, port }
 }
 
-// The next component of the Coupled with this id, or Nothing.
+// The next component of the Coupled with this id.
+#[tactic(auto, using(crate::proofs::Searches::children))]
 pub fn next_component(models: &[u64], from: usize, owner: u64) -> Option<usize>
     ensures { result ≡ first_from (is_component models.now owner) from (rows_in models.now - from) }
 {
-    next_child(models, from, 1, owner)
+    next_child(models, from, Some(owner))
 }
 
-// The next model without parent, or Nothing.
+// The next model without parent.
+#[tactic(auto, using(crate::proofs::Searches::children))]
 pub fn next_parentless(models: &[u64], from: usize) -> Option<usize>
     ensures { result ≡ first_from (is_free models.now) from (rows_in models.now - from) }
 {
-    next_child(models, from, 0, 0)
+    next_child(models, from, None)
 }
 
-// The next row with this id, or Nothing.
+// The next row with this id.
+#[tactic(auto, using(crate::proofs::Searches::ids))]
 pub fn next_with_id(models: &[u64], from: usize, id: u64) -> Option<usize>
     ensures { result ≡ first_from (has_id models.now id) from (rows_in models.now - from) }
 {
-    let cell = Cell { at: 0, value: id };
-    let key = Key {
-        first: cell,
-        second: cell,
-        third: cell,
-        fourth: cell,
-    };
-    words::next_row(models, 10, from, models.len() / 10, key)
+    let key = [Cell { at: 0, value: id }];
+    words::next_row(models, MODEL_WIDTH, from, models.len() / MODEL_WIDTH, &key)
 }

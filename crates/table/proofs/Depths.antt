@@ -1,5 +1,5 @@
 -- The steps of the count of a row's depth, backwards through the rows before it. Assumes nothing.
-use Rattle.std.specs.Prelude.{None, Option as Answer, Some}
+use Rattle.std.specs.Prelude.{Option, None, Some}
 use Prim.Native.Nat.{ℕ, zero, suc, ◌+◌, ◌-◌, ◌*◌, ◌≤◌, ◌<◌}
 use mathlib.Core.Path.{◌≡◌, refl, sym, ◌∙◌}
 use mathlib.Core.List.{List}
@@ -14,21 +14,21 @@ use Rattle.table.specs.Earlier.{none_deep}
 use Rattle.table.specs.Readings.{parent-back}
 
 -- the depth of a row with this parent, after the first `k` rows
-abbrev pub depth_from : List ℕ → ℕ → Answer ℕ → ℕ
+abbrev pub depth_from : List ℕ → ℕ → Option ℕ → ℕ
 depth_from models k p = depth_of (before models k) (option_of p)
 
 module _ (models : List ℕ) where
   -- no row is left
-  pub depth-end : (k : ℕ) (p : Answer ℕ) → k ≤ 0 → depth_from models k p ≡ 1
+  pub depth-end : (k : ℕ) (p : Option ℕ) → k ≤ 0 → depth_from models k p ≡ 1
   depth-end zero p h = refl
   depth-end (suc k) p h = absurd (omega arith)
 
-  pub depth-top : (k : ℕ) {p : Answer ℕ} → p ≡ None → depth_from models k p ≡ 1
+  pub depth-top : (k : ℕ) {p : Option ℕ} → p ≡ None → depth_from models k p ≡ 1
   depth-top k e = rw e (none_deep models k)
 
-  module _ {p : Answer ℕ} {id : ℕ} (e : p ≡ Some id) {x : ℕ} where
+  module _ {p : Option ℕ} {id : ℕ} (e : p ≡ Some id) {x : ℕ} where
     -- the row before `k` is the parent
-    pub depth-hit : (k : ℕ) {q : Answer ℕ} → 0 < k → x ≡ id_in models (k - 1) → x ≡ id → q ≡ parent_of (parent_in (row_of model_width models (k - 1))) → depth_from models k p ≡ depth_from models (k - 1) q + 1
+    pub depth-hit : (k : ℕ) {q : Option ℕ} → 0 < k → x ≡ id_in models (k - 1) → x ≡ id → q ≡ parent_of (parent_in (row_of model_width models (k - 1))) → depth_from models k p ≡ depth_from models (k - 1) q + 1
     depth-hit zero h r s f = absurd (omega arith)
     depth-hit (suc k) h r s f =
         let m : suc k - 1 ≡ k = omega arith in

@@ -1,6 +1,6 @@
 -- The tests of the words agree with the rules of intake: each row's, and so the first bad row of each part, and the verdict. Assumes nothing.
 use Prim.Native.Nat.{ℕ, zero, suc}
-use Rattle.std.specs.Prelude.{◌≡◌, refl, Bool, false, ◌&&◌, List, [], ◌∷◌, ◌++◌, map, length, T, ltb, eqb, if◌then◌else◌, Option as Answer, None, Some, Option}
+use Rattle.std.specs.Prelude.{◌≡◌, refl, Bool, false, ◌&&◌, List, [], ◌∷◌, ◌++◌, map, length, T, ltb, eqb, if◌then◌else◌, None, Some, Option}
 use Rattle.std.proofs.Math.Path.{sym}
 use Rattle.std.proofs.Common.{ap, ◌∙◌, subst, true≢false, arith, eqb→eq}
 use Rattle.std.proofs.Math.Bool.{true, not}
@@ -29,12 +29,12 @@ keeps-where : {A : Type 0} (rules : A → List Bool) (b : Bool) (x : A) → keep
 keeps-where rules true x = refl
 keeps-where rules false x = refl
 
-abbrev pub place_of : Answer ℕ → Option ℕ
+abbrev pub place_of : Option ℕ → Option ℕ
 place_of (Some k) = Some k
 place_of None = None
 
 -- ---- the first bad row, by a test of each
-pick-place : (b : Bool) (k : ℕ) (rest : Answer ℕ) → (if b then place_of rest else Some k) ≡ place_of (if not b then Some k else rest)
+pick-place : (b : Bool) (k : ℕ) (rest : Option ℕ) → (if b then place_of rest else Some k) ≡ place_of (if not b then Some k else rest)
 pick-place true k rest = refl
 pick-place false k rest = refl
 
@@ -60,7 +60,7 @@ pub rows-first : (models : List ℕ) (k n : ℕ) → first_bad_row k (earlier_in
 rows-first models k zero = refl
 rows-first models k (suc n) = go (model_row (row_of model_width models k)) (read (row_of model_width models k) (kind_in (row_of model_width models k))) (rows-first models (suc k) n)
   where
-    rest : Answer ℕ
+    rest : Option ℕ
     rest = first_from (λ j. not (keeps (row_rules (earlier_in models j)) (model_row (row_of model_width models j)))) (suc k) n
 
     go : (o : Option Table.Row) → ((r : Table.Row) → o ≡ Some r → row_in models k ≡ r)

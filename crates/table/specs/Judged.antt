@@ -1,5 +1,5 @@
 -- The verdict on a lent table is that of its words: sizes, then the first bad row of each part. Assumes nothing.
-use Rattle.std.specs.Prelude.{ℕ, zero, suc, ◌+◌, ◌*◌, ◌/◌, ◌≤◌, ◌<◌, ◌≡◌, refl, Bool, true, false, ◌&&◌, length, leb, if◌then◌else◌, Option as Answer, None, Some, Result, Ok, Err, ⊤, Option}
+use Rattle.std.specs.Prelude.{ℕ, zero, suc, ◌+◌, ◌*◌, ◌/◌, ◌≤◌, ◌<◌, ◌≡◌, refl, Bool, true, false, ◌&&◌, length, leb, if◌then◌else◌, None, Some, Result, Ok, Err, ⊤, Option}
 use Rattle.std.proofs.Common.{sym, ◌∙◌, subst, add-zero, zero-add, arith, le-leb}
 use Rattle.std.proofs.Math.Path.{ap}
 use Rattle.std.proofs.Math.Bool.{not}
@@ -123,13 +123,13 @@ module _ (models couplings : List ℕ) where
 
 -- ---- the verdict
 -- what was found in the three parts, in their order
-abbrev pub judged : Answer ℕ → Answer ℕ → Answer ℕ → Result ⊤ BadTable
+abbrev pub judged : Option ℕ → Option ℕ → Option ℕ → Result ⊤ BadTable
 judged (Some k) y z = Err (Row k)
 judged None (Some k) z = Err (Connector k)
 judged None None (Some k) = Err (Coupling k)
 judged None None None = Ok tt
 
-steps : (p : Posted) (x y z : Answer ℕ) → hold (size_rules p) ≡ true → first_bad_row 0 [] p.rows ≡ place_of x → first_bad connector_rules 0 p.connectors ≡ place_of y
+steps : (p : Posted) (x y z : Option ℕ) → hold (size_rules p) ≡ true → first_bad_row 0 [] p.rows ≡ place_of x → first_bad connector_rules 0 p.connectors ≡ place_of y
     → (x ≡ None → first_bad (coupling_rules (whole p.rows)) 0 p.couplings ≡ place_of z) → verdict_of (Intake.intake p) ≡ judged x y z
 unfolding Intake.intake
 steps p (Some k) y z s f g h = rw (s, f)

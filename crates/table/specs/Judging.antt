@@ -1,5 +1,5 @@
 -- What the private functions of `table` answer: a row read whether it is whole or not, and the tests of a row, a connector and a coupling in the code's order. Definitions only. Assumes nothing.
-use Rattle.std.specs.Prelude.{ℕ, zero, suc, ◌-◌, ◌/◌, Bool, true, not, ◌&&◌, List, [], ◌∷◌, length, leb, ltb, eqb, if◌then◌else◌, is_some, Option as Answer, None, Some, Option}
+use Rattle.std.specs.Prelude.{ℕ, zero, suc, ◌-◌, ◌/◌, Bool, true, not, ◌&&◌, List, [], ◌∷◌, length, leb, ltb, eqb, if◌then◌else◌, is_some, None, Some, Option}
 use Rattle.std.specs.Float.{binary64}
 use Rattle.std.specs.Float.Ieee.{of_bits}
 use Rattle.rules.specs.declared.Metric.{Metric}
@@ -34,18 +34,18 @@ unfoldable pub stopwatch_at : List ℕ → Option Table.Kind
 stopwatch_at row = stopwatch_in row (metric_in row)
 
 -- the port that a word says
-abbrev pub port_of : ℕ → Answer ℕ
+abbrev pub port_of : ℕ → Option ℕ
 port_of n = if is_port n then Some n else None
 
 -- a metric, as the code has it
-abbrev pub metric_of : Option Metric → Answer Metric
+abbrev pub metric_of : Option Metric → Option Metric
 metric_of None = None
 metric_of (Some m) = Some m
 
-abbrev pub is_kind : Answer Kind → Bool
+abbrev pub is_kind : Option Kind → Bool
 is_kind k = is_some k
 
-abbrev pub option_of : Answer ℕ → Option ℕ
+abbrev pub option_of : Option ℕ → Option ℕ
 option_of None = None
 option_of (Some id) = Some id
 
@@ -133,5 +133,5 @@ keeps_in Connectors models words k = connector_keeps (row_of connector_width wor
 keeps_in Couplings models words k = coupling_keeps (all_in models) (row_of coupling_width words k)
 
 -- the first row of this part that does not
-abbrev pub first_bad_in : Part → List ℕ → List ℕ → Answer ℕ
+abbrev pub first_bad_in : Part → List ℕ → List ℕ → Option ℕ
 first_bad_in part models words = first_from (λ k. not (keeps_in part models words k)) 0 (count_of (width_of part) words)

@@ -1,5 +1,5 @@
 -- What the words of a table say once it has passed intake: how many there are, and that each row, connector and coupling of the table is read off them. Assumes nothing.
-use Rattle.std.specs.Prelude.{ℕ, zero, suc, ◌+◌, ◌*◌, ◌≤◌, ◌<◌, ◌≡◌, refl, Bool, true, false, length, take, T, leb, eqb, if◌then◌else◌, Option as Answer, None, Some, Option}
+use Rattle.std.specs.Prelude.{ℕ, zero, suc, ◌+◌, ◌*◌, ◌≤◌, ◌<◌, ◌≡◌, refl, Bool, true, false, length, take, T, leb, eqb, if◌then◌else◌, None, Some, Option}
 use Rattle.std.proofs.Math.Path.{sym, ap}
 use Rattle.std.proofs.Common.{◌∙◌, subst, add-zero, zero-add, arith, drop_of_length-le, leb→le, eqb→eq}
 use Rattle.std.proofs.lemmas.Bool.{false≢true}
@@ -40,7 +40,7 @@ abbrev pub coupling_at : List ℕ → ℕ → Coupling
 coupling_at couplings k = coupling_of (row_of coupling_width couplings k)
 
 -- ---- lists
-pub place_none : (f : Answer ℕ) → place_of f ≡ None → f ≡ None
+pub place_none : (f : Option ℕ) → place_of f ≡ None → f ≡ None
 place_none (Some k) e = absurd (no-some (sym e))
 place_none None e = refl
 

@@ -1,5 +1,5 @@
 -- What the readers of a lent table answer, by the layout (rules, Layout.antt). Definitions only. Assumes nothing.
-use Rattle.std.specs.Prelude.{ℕ, zero, suc, ◌*◌, List, [], ◌∷◌, take, drop, if◌then◌else◌, Option as Answer, None, Some, Option}
+use Rattle.std.specs.Prelude.{ℕ, zero, suc, ◌*◌, List, [], ◌∷◌, take, drop, if◌then◌else◌, None, Some, Option}
 use Rattle.rules.specs.Base.{hold}
 use Rattle.rules.specs.Table as Table
 use Rattle.rules.specs.Intake.{kind_rules, depth_of}
@@ -21,11 +21,11 @@ named (Table.stopwatch w) = Stopwatch w
 named Table.coupled = Coupled
 
 -- a kind whose own rules hold
-abbrev pub kind_of : Option Table.Kind → Answer Kind
+abbrev pub kind_of : Option Table.Kind → Option Kind
 kind_of None = None
 kind_of (Some k) = if hold (kind_rules k) then Some (named k) else None
 
-abbrev pub parent_of : Option ℕ → Answer ℕ
+abbrev pub parent_of : Option ℕ → Option ℕ
 parent_of None = None
 parent_of (Some id) = Some id
 

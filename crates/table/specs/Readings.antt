@@ -1,5 +1,5 @@
 -- What was read of a row: its parent, and a Processor whose ports fit. Assumes nothing.
-use Rattle.std.specs.Prelude.{ℕ, ◌<◌, ◌^◌, ◌≡◌, refl, Bool, true, false, List, [], ◌∷◌, if◌then◌else◌, Option as Answer, Option, None, Some}
+use Rattle.std.specs.Prelude.{ℕ, ◌<◌, ◌^◌, ◌≡◌, refl, Bool, true, false, List, [], ◌∷◌, if◌then◌else◌, Option, None, Some}
 use Rattle.std.proofs.Common.{sym, ap, ◌∙◌, lt-ltb}
 use Rattle.std.proofs.lemmas.Bool.{false≢true}
 use Rattle.rules.specs.Sizes.{is_port, is_word, omitted_capacity}
@@ -9,7 +9,7 @@ use Rattle.table.specs.Readers.{kind_of, parent_of}
 use Rattle.table.specs.Judging.{option_of, is_kind, cells_fit}
 use Rattle.rules.specs.Ends.{one}
 
-pub parent-back : {p : Answer ℕ} (o : Option ℕ) → p ≡ parent_of o → o ≡ option_of p
+pub parent-back : {p : Option ℕ} (o : Option ℕ) → p ≡ parent_of o → o ≡ option_of p
 parent-back None e = sym (ap option_of e)
 parent-back (Some id) e = sym (ap option_of e)
 

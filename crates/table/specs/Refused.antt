@@ -1,5 +1,5 @@
 -- What the words of a table say where intake refuses it: the rows before a bad one are those of their words, and the bad one fails the tests of its own; and that none does where no bad one is found. Assumes nothing.
-use Rattle.std.specs.Prelude.{ℕ, zero, suc, ◌+◌, ◌*◌, ◌≤◌, ◌<◌, ◌≡◌, refl, Bool, true, false, not, get_or, take, Option as Answer, None, Some, Option}
+use Rattle.std.specs.Prelude.{ℕ, zero, suc, ◌+◌, ◌*◌, ◌≤◌, ◌<◌, ◌≡◌, refl, Bool, true, false, not, get_or, take, None, Some, Option}
 use Rattle.std.proofs.Common.{sym, ap, ◌∙◌, subst, add-zero, zero-add, arith, drop_of_length-le}
 use mathlib.Core.List.{List, [], map, reverse_aux}
 use Rattle.std.proofs.Math.Decide.{dec_le}
@@ -39,7 +39,7 @@ line-is width wide words j = elim (dec_le (suc j) (count_of width words)) [
 bad-at : (part : Part) (models words : List ℕ) (k : ℕ) → place_of (first_bad_in part models words) ≡ Some k → keeps_in part models words k ≡ false
 bad-at part models words k = go (first_bad_in part models words) refl
   where
-    go : (f : Answer ℕ) → first_bad_in part models words ≡ f → place_of f ≡ Some k → keeps_in part models words k ≡ false
+    go : (f : Option ℕ) → first_bad_in part models words ≡ f → place_of f ≡ Some k → keeps_in part models words k ≡ false
     go (Some j) e h =
         let same : j ≡ k = cc in
         rw (← same) (not-true (keeps_in part models words j) (first-at (λ i. not (keeps_in part models words i)) 0 (count_of (width_of part) words) j e).2)

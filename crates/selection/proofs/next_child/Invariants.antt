@@ -7,8 +7,4 @@ use Rattle.selection.specs.SelectingLaws.{child_at}
 use Rattle.selection.proofs.next_child.Given as goal
 
 abbrev pub invariant-loop-row : goal.invariant-loop-row
-invariant-loop-row l =
-    (l.end ≡ rows_in l.models) × (first_from (child_at l.given l.parent l.models) l.row (l.end - l.row) ≡ first_from (child_at l.given l.parent l.models) l.from (rows_in l.models - l.from))
-
-abbrev pub decreases-loop-row : goal.decreases-loop-row
-decreases-loop-row l = l.end - l.row
+invariant-loop-row l = first_from (child_at l.parent l.models) l.row (rows_in l.models - l.row) ≡ first_from (child_at l.parent l.models) l.from (rows_in l.models - l.from)
