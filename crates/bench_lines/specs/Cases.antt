@@ -1,5 +1,5 @@
 -- Lines computed: each form, with and without what may be left out, and each way to be wrong. Assumes nothing.
-use Rattle.std.specs.Prelude.{ℕ, ◌≡◌, refl, List, [], ◌∷◌, replicate}
+use Rattle.std.specs.Prelude.{ℕ, ◌≡◌, refl, List, [], ◌∷◌, replicate, Some, None, Ok, Err}
 use Prim.Native.String.{String}
 use Rattle.std.specs.Float.Ieee.{of_int, to_bits}
 use Rattle.bench_words.specs.Splitting.{words_from, word_at}
@@ -13,21 +13,20 @@ use Rattle.bench_lines.specs.declared.Word.TheVariants as Words
 use Rattle.bench_lines.specs.declared.Value.TheVariants.{TheEnd, AnId, ASmall, AWhole, ATime, AMetric}
 use Rattle.bench_lines.specs.declared.Wanted.{Wanted}
 use Rattle.bench_lines.specs.declared.Wanted.TheVariants.{AnItem, TheWord, AValue}
-use Rattle.bench_lines.specs.declared.Said.TheVariants.{Nothing, Row, Wrong}
 use Rattle.bench_lines.specs.Reading.{wants, read_line}
 
 abbrev Is : String → Item → List ℕ → Type 0
-Is text item cells = read_line (bytes text) ≡ record { said = Row item; column = 1; cells = cells }
+Is text item cells = read_line (bytes text) ≡ record { said = Ok (Some item); column = 1; cells = cells }
 
 -- what was expected, at which column, and the optional word that may stand there too
 abbrev WantsOr : String → ℕ → Word → Wanted → Type 0
-WantsOr text column or what = read_line (bytes text) ≡ record { said = Wrong (wants or what); column = column; cells = replicate 10 0 }
+WantsOr text column or what = read_line (bytes text) ≡ record { said = Err (wants or what); column = column; cells = replicate 10 0 }
 
 abbrev Wants : String → ℕ → Wanted → Type 0
 Wants text column what = WantsOr text column Words.Nothing what
 
 abbrev Empty : String → ℕ → Type 0
-Empty text column = read_line (bytes text) ≡ record { said = Nothing; column = column; cells = replicate 10 0 }
+Empty text column = read_line (bytes text) ≡ record { said = Ok None; column = column; cells = replicate 10 0 }
 
 pub record Table : Type 0 where
   pub processor : Is "processor 2 in 1 out 2" Processor (2 ∷ 1 ∷ 0 ∷ 0 ∷ 1 ∷ 0 ∷ 0 ∷ 2 ∷ 0 ∷ 0 ∷ [])
@@ -45,7 +44,7 @@ pub record Table : Type 0 where
   pub step_until : Is "step_until 9007199254740992 allowance 7" StepUntil (3 ∷ 0x4340000000000000 ∷ 7 ∷ 0 ∷ 0 ∷ 0 ∷ 0 ∷ 0 ∷ 0 ∷ 0 ∷ [])
   pub step-until-idle : Is "step_until_idle allowance 100" StepUntilIdle (4 ∷ 100 ∷ 0 ∷ 0 ∷ 0 ∷ 0 ∷ 0 ∷ 0 ∷ 0 ∷ 0 ∷ [])
   pub rows : Is "rows" Rows (0 ∷ 0 ∷ 0 ∷ 0 ∷ 0 ∷ 0 ∷ 0 ∷ 0 ∷ 0 ∷ 0 ∷ [])
-  pub tabs-and-comments : read_line (bytes "\tservice\t 2# two\r") ≡ record { said = Row Service; column = 2; cells = 0x4000000000000000 ∷ 0 ∷ 0 ∷ 0 ∷ 0 ∷ 0 ∷ 0 ∷ 0 ∷ 0 ∷ 0 ∷ [] }
+  pub tabs-and-comments : read_line (bytes "\tservice\t 2# two\r") ≡ record { said = Ok (Some Service); column = 2; cells = 0x4000000000000000 ∷ 0 ∷ 0 ∷ 0 ∷ 0 ∷ 0 ∷ 0 ∷ 0 ∷ 0 ∷ 0 ∷ [] }
   pub blank : Empty " \t " 4
   pub comment : Empty "# processor 1" 1
   pub no_item : Wants "  processors 1" 3 AnItem

@@ -1,5 +1,5 @@
 -- The items and their forms: what stands on a line, in order, and in which cell of the row it goes. Definitions only. Assumes nothing.
-use Rattle.std.specs.Prelude.{ℕ, ◌+◌, ◌*◌, ◌-◌, List, [], ◌∷◌, ◌++◌, length, get_or, set, replicate, ltb, if◌then◌else◌}
+use Rattle.std.specs.Prelude.{ℕ, ◌+◌, ◌*◌, ◌-◌, List, [], ◌∷◌, ◌++◌, length, get_or, set, replicate, ltb, Option, Some, None, if◌then◌else◌}
 use Rattle.bench_words.specs.Numbers.{digit_of}
 use Rattle.bench_words.specs.Texts.{same, text_in}
 use Rattle.bench_lines.specs.declared.Item.{Item}
@@ -9,8 +9,6 @@ use Rattle.bench_lines.specs.declared.Word.TheVariants.{Nothing, Parent, In, Out
 use Rattle.bench_lines.specs.declared.Value.{Value}
 use Rattle.bench_lines.specs.declared.Value.TheVariants.{TheEnd, AnId, ASmall, AWhole, ATime, AMetric}
 use Rattle.bench_lines.specs.declared.Field.{Field}
-use Rattle.bench_lines.specs.declared.Named.{Named}
-use Rattle.bench_lines.specs.declared.Named.TheVariants.{Is, Nobody}
 use Rattle.bench_lines.specs.Names.{item_text}
 
 -- ---- fields
@@ -151,6 +149,6 @@ start_of Rows = zeros
 abbrev pub items : List Item
 items = Processor ∷ Batcher ∷ Stopwatch ∷ Coupled ∷ Connector ∷ Input ∷ Output ∷ Internal ∷ Service ∷ InjectInput ∷ StepN ∷ StepUntil ∷ StepUntilIdle ∷ Rows ∷ []
 
-abbrev pub item_named : List ℕ → List Item → Named
-item_named name [] = Nobody
-item_named name (i ∷ is) = let rest = item_named name is in if same name (text_in (item_text i)) then Is i else rest
+abbrev pub item_named : List ℕ → List Item → Option Item
+item_named name [] = None
+item_named name (i ∷ is) = let rest = item_named name is in if same name (text_in (item_text i)) then Some i else rest

@@ -1,12 +1,10 @@
 -- Whatever a line says, its row has ten cells, and its column is one of its bytes or the place behind the last. Assumes nothing.
-use Rattle.std.specs.Prelude.{ℕ, ◌+◌, ◌≤◌, ◌≡◌, refl, Bool, true, false, List, [], ◌∷◌, eqb, length, get_or, set, drop, if◌then◌else◌}
+use Rattle.std.specs.Prelude.{ℕ, ◌+◌, ◌≤◌, ◌≡◌, refl, Bool, true, false, List, [], ◌∷◌, eqb, length, get_or, set, drop, Option, Some, None, if◌then◌else◌}
 use Rattle.std.proofs.Common.{◌∙◌, arith, length-set}
 use Rattle.std.specs.Int.Bits.{bit_or}
 use Rattle.bench_words.specs.Splitting.{words_of, word_at}
 use Rattle.bench_words.specs.SplittingLaws.{word-inside}
 use Rattle.bench_words.specs.Texts.{same, text_in}
-use Rattle.bench_words.specs.declared.Number.{Number}
-use Rattle.bench_words.specs.declared.Number.TheVariants.{Is, Not}
 use Rattle.bench_lines.specs.declared.Item.{Item}
 use Rattle.bench_lines.specs.declared.Item.TheVariants.{Processor, Batcher, Stopwatch, Coupled, Connector, Input, Output, Internal, Service, InjectInput, StepN, StepUntil, StepUntilIdle, Rows}
 use Rattle.bench_lines.specs.declared.Word.{Word}
@@ -14,7 +12,6 @@ use Rattle.bench_lines.specs.declared.Word.TheVariants.{Nothing}
 use Rattle.bench_lines.specs.declared.Expected.{Expected}
 use Rattle.bench_lines.specs.declared.Field.{Field}
 use Rattle.bench_lines.specs.declared.Line.{Line}
-use Rattle.bench_lines.specs.declared.Named.{Named}
 use Rattle.bench_lines.specs.Names.{word_text}
 use Rattle.bench_lines.specs.Forms.{start_of, form_of, fields_in, item_named, items}
 use Rattle.bench_lines.specs.Reading.{Course, on, failed, is_end, has_word, value_of, kept, taken, value_in, left_out, after_in, read_field, go_on, read_fields, column_at, line_of, read_item, read_words, read_line}
@@ -52,9 +49,9 @@ module _ (line : List ℕ) where
   next-within at h = (word-inside line at (word_at line at) refl h).1
 
   module _ (f : Field) (or : Word) (at : ℕ) (cells : List ℕ) (ten : length cells ≡ 10) (h : at ≤ length line) where
-    taken-within : (v : Number) → Within line (taken line f or at cells v)
-    taken-within (Is n) = goes (kept-length f n cells ∙ ten) (next-within at h)
-    taken-within Not = stops h
+    taken-within : (v : Option ℕ) → Within line (taken line f or at cells v)
+    taken-within (Some n) = goes (kept-length f n cells ∙ ten) (next-within at h)
+    taken-within None = stops h
 
     value-within : (words : List (List ℕ)) → Within line (value_in line f or at cells words)
     value-within [] = either (is_end f.value) _ _ (goes ten h) (stops h)
@@ -90,9 +87,9 @@ module _ (line : List ℕ) where
   line-good item (on cells at or) (goes ten h) = (ten, column-in 0 (omega arith))
   line-good item (failed e at) (stops h) = (refl, column-in at h)
 
-  item-good : (named : Named) → Good (read_item line named)
-  item-good (Named.Is item) = line-good item _ (fields_within (fields_in (form_of item)) Nothing (word_at line 0).end (start_of item) (start-ten item) (next-within 0 (omega arith)))
-  item-good Named.Nobody = (refl, column-in 0 (omega arith))
+  item-good : (named : Option Item) → Good (read_item line named)
+  item-good (Some item) = line-good item _ (fields_within (fields_in (form_of item)) Nothing (word_at line 0).end (start_of item) (start-ten item) (next-within 0 (omega arith)))
+  item-good None = (refl, column-in 0 (omega arith))
 
   words-good : (words : List (List ℕ)) → Good (read_words line words)
   words-good [] = (refl, column-in 0 (omega arith))

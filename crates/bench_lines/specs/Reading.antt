@@ -1,11 +1,9 @@
 -- How a line is read: its words against the form of its item, and where it is wrong. Definitions only. Assumes nothing.
-use Rattle.std.specs.Prelude.{ℕ, suc, Bool, true, false, List, [], ◌∷◌, get_or, set, drop, replicate, eqb, if◌then◌else◌}
+use Rattle.std.specs.Prelude.{ℕ, suc, Bool, true, false, List, [], ◌∷◌, get_or, set, drop, replicate, eqb, Option, Some, None, Result, Ok, Err, if◌then◌else◌}
 use Rattle.std.specs.Int.Bits.{bit_or}
 use Rattle.bench_words.specs.Splitting.{words_of, word_at}
 use Rattle.bench_words.specs.Numbers.{number_of, time_of}
 use Rattle.bench_words.specs.Texts.{bytes, padded, same, text_in}
-use Rattle.bench_words.specs.declared.Number.{Number}
-use Rattle.bench_words.specs.declared.Number.TheVariants.{Is, Not}
 use Rattle.bench_lines.specs.declared.Item.{Item}
 use Rattle.bench_lines.specs.declared.Word.{Word}
 use Rattle.bench_lines.specs.declared.Word.TheVariants.{Nothing, Parent, In, Out, QueueCapacity, MaxBatchSize, MaxBatchTime, Start, Stop, Ask, Metric, Colon, To, Time, Content, Allowance}
@@ -14,23 +12,20 @@ use Rattle.bench_lines.specs.declared.Value.TheVariants.{TheEnd, AnId, ASmall, A
 use Rattle.bench_lines.specs.declared.Wanted.{Wanted}
 use Rattle.bench_lines.specs.declared.Wanted.TheVariants.{AnItem, TheWord, AValue}
 use Rattle.bench_lines.specs.declared.Expected.{Expected}
-use Rattle.bench_lines.specs.declared.Fault.{Fault}
-use Rattle.bench_lines.specs.declared.Fault.TheVariants.{Fine, Wrong}
 use Rattle.bench_lines.specs.declared.Field.{Field}
 use Rattle.bench_lines.specs.declared.Progress.{Progress}
-use Rattle.bench_lines.specs.declared.Said.{Said}
+use Rattle.bench_lines.specs.declared.Mistake.{Mistake}
 use Rattle.bench_lines.specs.declared.Line.{Line}
-use Rattle.bench_lines.specs.declared.Named.{Named}
 use Rattle.bench_lines.specs.Names.{word_text}
 use Rattle.bench_lines.specs.Forms.{start_of, form_of, fields_in, item_named, items}
 
 -- ---- values
-abbrev pub metric_of : List ℕ → Number
-metric_of word = if same word (text_in (padded (bytes "minimum"))) then Is 0 else if same word (text_in (padded (bytes "maximum"))) then Is 1 else Not
+abbrev pub metric_of : List ℕ → Option ℕ
+metric_of word = if same word (text_in (padded (bytes "minimum"))) then Some 0 else if same word (text_in (padded (bytes "maximum"))) then Some 1 else None
 
 -- what a word stands for where this value is expected
-abbrev pub value_of : Value → List ℕ → Number
-value_of TheEnd word = Not
+abbrev pub value_of : Value → List ℕ → Option ℕ
+value_of TheEnd word = None
 value_of AnId word = number_of 0xFFFF word
 value_of ASmall word = number_of 0xFFFF_FFFF word
 value_of AWhole word = number_of 0xFFFF_FFFF_FFFF_FFFF word
@@ -88,9 +83,9 @@ kept f value cells = set (set cells 2 (bit_or (get_or cells 2 0) f.flag)) f.cell
 
 -- `or` is the optional word that was left out before the field, `at` how far the line is read
 module _ (line : List ℕ) (f : Field) (or : Word) (at : ℕ) (cells : List ℕ) where
-  abbrev pub taken : Number → Course
-  taken (Is n) = on (kept f n cells) (word_at line at).end Nothing
-  taken Not = failed (wants or (AValue f.value)) at
+  abbrev pub taken : Option ℕ → Course
+  taken (Some n) = on (kept f n cells) (word_at line at).end Nothing
+  taken None = failed (wants or (AValue f.value)) at
 
   abbrev pub value_in : List (List ℕ) → Course
   value_in [] = if is_end f.value then on cells at Nothing else failed (wants or (AValue f.value)) at
@@ -127,18 +122,18 @@ zeros = replicate 10 0
 
 -- what is wrong from a place on
 abbrev pub wrong_at : List ℕ → Expected → ℕ → Line
-wrong_at line e at = record { said = Said.Wrong e; column = column_at line at; cells = zeros }
+wrong_at line e at = record { said = Err e; column = column_at line at; cells = zeros }
 
 abbrev pub line_of : List ℕ → Item → Course → Line
-line_of line item (on cells at or) = record { said = Said.Row item; column = column_at line 0; cells = cells }
+line_of line item (on cells at or) = record { said = Ok (Some item); column = column_at line 0; cells = cells }
 line_of line item (failed e at) = wrong_at line e at
 
-abbrev pub read_item : List ℕ → Named → Line
-read_item line (Named.Is item) = line_of line item (read_fields line (fields_in (form_of item)) Nothing (word_at line 0).end (start_of item))
-read_item line Named.Nobody = wrong_at line (only AnItem) 0
+abbrev pub read_item : List ℕ → Option Item → Line
+read_item line (Some item) = line_of line item (read_fields line (fields_in (form_of item)) Nothing (word_at line 0).end (start_of item))
+read_item line None = wrong_at line (only AnItem) 0
 
 abbrev pub read_words : List ℕ → List (List ℕ) → Line
-read_words line [] = record { said = Said.Nothing; column = column_at line 0; cells = zeros }
+read_words line [] = record { said = Ok None; column = column_at line 0; cells = zeros }
 read_words line (name ∷ words) = read_item line (item_named name items)
 
 -- what a line says: nothing, or the item that its first word names, with its fields
@@ -146,12 +141,14 @@ unfoldable pub read_line : List ℕ → Line
 read_line line = read_words line (words_of line)
 
 -- ---- how far the code is
-abbrev pub course_at : List ℕ → ℕ → Word → Fault → Course
-course_at cells at or Fine = on cells at or
-course_at cells at or (Wrong e) = failed e at
+abbrev pub course_of : Result Progress Mistake → Course
+course_of (Ok p) = on p.cells p.at p.or
+course_of (Err w) = failed w.expected w.at
 
-abbrev pub course_of : Progress → Course
-course_of p = course_at p.cells p.at p.or p.fault
+-- the place up to which it is read, or from which on it is wrong
+abbrev pub place_of : Result Progress Mistake → ℕ
+place_of (Ok p) = p.at
+place_of (Err w) = w.at
 
-abbrev pub progress_at : List ℕ → ℕ → Word → Fault → Progress
-progress_at cells at or fault = record { cells = cells; at = at; or = or; fault = fault }
+abbrev pub stops_at : ℕ → Expected → Mistake
+stops_at at e = record { at = at; expected = e }

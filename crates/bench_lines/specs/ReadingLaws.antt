@@ -1,20 +1,18 @@
 -- The laws of reading a line: a form's next field, a field by its words, and an item by its place. Assumes nothing.
-use Rattle.std.specs.Prelude.{ℕ, suc, ◌+◌, ◌*◌, ◌<◌, ◌≡◌, true, false, List, [], ◌∷◌, length, get_or, drop}
+use Rattle.std.specs.Prelude.{ℕ, suc, ◌+◌, ◌*◌, ◌<◌, ◌≡◌, true, false, List, [], ◌∷◌, length, get_or, drop, Some, Result, Ok, Err}
 use Rattle.std.proofs.Common.{sym, ap, ◌∙◌, arith, add-one, drop-cons}
 use Rattle.bench_words.specs.Splitting.{words_of, word_at}
 use Rattle.bench_words.specs.Texts.{same, text_in}
 use Rattle.bench_lines.specs.declared.Item.{Item}
 use Rattle.bench_lines.specs.declared.Item.TheVariants.{Processor}
-use Rattle.bench_lines.specs.declared.Expected.{Expected}
 use Rattle.bench_lines.specs.declared.Word.{Word}
 use Rattle.bench_lines.specs.declared.Word.TheVariants.{Nothing}
 use Rattle.bench_lines.specs.declared.Progress.{Progress}
-use Rattle.bench_lines.specs.declared.Fault.TheVariants.{Fine, Wrong}
+use Rattle.bench_lines.specs.declared.Mistake.{Mistake}
 use Rattle.bench_lines.specs.declared.Field.{Field}
-use Rattle.bench_lines.specs.declared.Named.TheVariants.{Is}
 use Rattle.bench_lines.specs.Names.{item_text, word_text}
 use Rattle.bench_lines.specs.Forms.{fields_in, field_coded, item_named}
-use Rattle.bench_lines.specs.Reading.{has_word, left_out, course_at, course_of, read_value, read_field, read_fields, go_on}
+use Rattle.bench_lines.specs.Reading.{has_word, left_out, course_of, read_value, read_field, read_fields, go_on}
 
 -- ---- the next field of a form
 pub field_next : (form : List ℕ) (k : ℕ) → k * 4 + 3 < length form → fields_in (drop (k * 4) form) ≡ field_coded form k ∷ fields_in (drop ((k + 1) * 4) form)
@@ -26,13 +24,13 @@ field_next form k h =
     rw (one, two, three, four, drop-cons form (k * 4) 0 (omega arith), drop-cons form (suc (k * 4)) 0 (omega arith), drop-cons form (suc (suc (k * 4))) 0 (omega arith), drop-cons form (suc (suc (suc (k * 4)))) 0 (omega arith))
 
 -- a field that is read, and one that is not
-module _ (line : List ℕ) (f : Field) (fs : List Field) (or : Word) (at : ℕ) (cells : List ℕ) (p : Progress) (e : course_of p ≡ read_field line f or at cells) where
-  pub fields-on : p.fault ≡ Fine → read_fields line (f ∷ fs) or at cells ≡ read_fields line fs p.or p.at p.cells
-  fields-on h = ap (λ o. go_on o (read_fields line fs)) (sym e ∙ ap (course_at p.cells p.at p.or) h)
+module _ (line : List ℕ) (f : Field) (fs : List Field) (or : Word) (at : ℕ) (cells : List ℕ) (r : Result Progress Mistake) (e : course_of r ≡ read_field line f or at cells) where
+  pub fields-on : (p : Progress) → r ≡ Ok p → read_fields line (f ∷ fs) or at cells ≡ read_fields line fs p.or p.at p.cells
+  fields-on p h = ap (λ o. go_on o (read_fields line fs)) (sym e ∙ ap course_of h)
 
-  pub fields-fail : (x : Expected) → p.fault ≡ Wrong x → course_of p ≡ read_fields line (f ∷ fs) or at cells
-  fields-fail x h =
-      let stops = ap (course_at p.cells p.at p.or) h in
+  pub fields-fail : (w : Mistake) → r ≡ Err w → course_of r ≡ read_fields line (f ∷ fs) or at cells
+  fields-fail w h =
+      let stops = ap course_of h in
       stops ∙ sym (ap (λ o. go_on o (read_fields line fs)) (sym e ∙ stops))
 
 -- ---- a field by its words
@@ -53,7 +51,7 @@ module _ (line : List ℕ) (f : Field) (or : Word) (at : ℕ) (cells : List ℕ)
 
 -- ---- an item by its place
 module _ (name : List ℕ) (list : List Item) (k : ℕ) (item : Item) (h : k < length list) (e : item ≡ get_or list k Processor) where
-  pub item-found : same name (text_in (item_text item)) ≡ true → item_named name (drop k list) ≡ Is item
+  pub item-found : same name (text_in (item_text item)) ≡ true → item_named name (drop k list) ≡ Some item
   item-found found = rw (drop-cons list k Processor h, sym e, found)
 
   pub item-other : same name (text_in (item_text item)) ≡ false → item_named name (drop k list) ≡ item_named name (drop (k + 1) list)

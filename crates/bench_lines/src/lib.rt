@@ -4,12 +4,11 @@
 ghost use Rattle.std.specs.Prelude.{◌≡◌, ◌<◌, ◌≤◌, length};
 ghost use Rattle.bench_lines.specs.Names.{item_text, word_text, value_text, wanted_text};
 ghost use Rattle.bench_lines.specs.Forms.{start_of, form_of, word_coded, value_coded, fields_in, field_coded, item_named, items};
-ghost use Rattle.bench_lines.specs.Reading.{has_word, is_end, metric_of, value_of, kept, wants, progress_at, column_at, course_of, read_value, left_out, read_field, read_fields, wrong_at, line_of, read_line};
+ghost use Rattle.bench_lines.specs.Reading.{has_word, is_end, metric_of, value_of, kept, wants, stops_at, column_at, course_of, place_of, read_value, left_out, read_field, read_fields, wrong_at, line_of, read_line};
 ghost use Rattle.bench_lines.specs.Reading.{only as Reading·only};
 ghost use Rattle.bench_lines.specs.declared.Word.TheVariants as Words;
-ghost use Rattle.bench_lines.specs.declared.Fault.TheVariants as Faults;
 
-use bench_words::Number;
+use bench_words::Span;
 
 // What a line can say.
 #[derive(Clone, Copy)]
@@ -31,6 +30,7 @@ pub enum Item {
 }
 
 // The words that stand between values; a field may have none.
+// kept: `word_text` takes `Nothing` too, and a `Word` without it, in an Option, would ask more of its callers.
 #[derive(Clone, Copy)]
 pub enum Word {
     Nothing,
@@ -51,7 +51,7 @@ pub enum Word {
     Allowance,
 }
 
-// What may stand for a field: nothing more, a number below 2^16, 2^32 or 2^64, a time, a metric.
+// What may stand for a field: nothing more (`wanted_text` has a text for it), a number below 2^16, 2^32 or 2^64, a time, a metric.
 #[derive(Clone, Copy)]
 pub enum Value {
     TheEnd,
@@ -78,12 +78,6 @@ pub struct Expected {
     pub what: Wanted,
 }
 
-#[derive(Clone, Copy)]
-pub enum Fault {
-    Fine,
-    Wrong(Expected),
-}
-
 // A field: its word, its flag in the row's word 2 if it may be left out (0: it may not), what its value is, and the cell for it.
 #[derive(Clone, Copy)]
 struct Field {
@@ -93,26 +87,12 @@ struct Field {
     cell: usize,
 }
 
-// What a line says: nothing, an item, or that it is wrong.
-#[derive(Clone, Copy)]
-pub enum Said {
-    Nothing,
-    Row(Item),
-    Wrong(Expected),
-}
-
-// What a line says, and the column where it stands: that of the item, or of what is wrong. Columns count bytes from 1.
+// What a line says: an item, nothing, or that it is wrong; and the column where that stands. Columns count bytes from 1.
 #[derive(Clone, Copy)]
 pub struct Line {
-    pub said: Said,
+    pub said: Result<Option<Item>, Expected>,
     pub column: usize,
     pub cells: [u64; 10],
-}
-
-#[derive(Clone, Copy)]
-enum Named {
-    Is(Item),
-    Nobody,
 }
 
 // How far a line is read, and the optional word that was left out just there.
@@ -121,7 +101,13 @@ struct Progress {
     cells: [u64; 10],
     at: usize,
     or: Word,
-    fault: Fault,
+}
+
+// Where a line is wrong, and what was expected there.
+#[derive(Clone, Copy)]
+struct Mistake {
+    at: usize,
+    expected: Expected,
 }
 
 const ITEMS: [Item; 14] = [
@@ -171,6 +157,7 @@ const VALUES: [Value; 6] = [
 
 // The fields of each item, four hex digits each: word and value by their places in WORDS and VALUES, flag, cell; in the order word,
 // flag, value, cell. Zeros after them ask for the line's end.
+// kept: the theorems `decoded` and `one-at-a-time` speak of forms in these digits.
 fn form_of(item: Item) -> [u8; 32]
     ensures { result ≡ form_of item }
 {
@@ -215,6 +202,7 @@ fn start_of(item: Item) -> [u64; 10]
 }
 
 // Texts are 32 bytes long, filled up with dots.
+// kept: `word_text` and `wanted_text` promise all 32 bytes, so that a slice of the text alone would promise less.
 fn item_text(item: Item) -> [u8; 32]
     ensures { result ≡ item_text item }
 {
@@ -297,21 +285,13 @@ pub fn only(wanted: Wanted) -> Expected
 fn word_coded(code: u64) -> Word
     ensures { result ≡ word_coded code }
 {
-    if code < 16 {
-        WORDS[code as usize]
-    } else {
-        Word::Nothing
-    }
+    *WORDS.get(code as usize).unwrap_or(&Word::Nothing)
 }
 
 fn value_coded(code: u64) -> Value
     ensures { result ≡ value_coded code }
 {
-    if code < 6 {
-        VALUES[code as usize]
-    } else {
-        Value::TheEnd
-    }
+    *VALUES.get(code as usize).unwrap_or(&Value::TheEnd)
 }
 
 // The k-th field of a form.
@@ -335,72 +315,45 @@ fn field_in(form: [u8; 32], k: usize) -> Field
 fn has_word(word: Word) -> bool
     ensures { result ≡ has_word word }
 {
-    match word {
-        Word::Nothing => false,
-        Word::Parent => true,
-        Word::In => true,
-        Word::Out => true,
-        Word::QueueCapacity => true,
-        Word::MaxBatchSize => true,
-        Word::MaxBatchTime => true,
-        Word::Start => true,
-        Word::Stop => true,
-        Word::Ask => true,
-        Word::Metric => true,
-        Word::Colon => true,
-        Word::To => true,
-        Word::Time => true,
-        Word::Content => true,
-        Word::Allowance => true,
-    }
+    !matches!(word, Word::Nothing)
 }
 
 fn is_end(value: Value) -> bool
     ensures { result ≡ is_end value }
 {
-    match value {
-        Value::TheEnd => true,
-        Value::AnId => false,
-        Value::ASmall => false,
-        Value::AWhole => false,
-        Value::ATime => false,
-        Value::AMetric => false,
-    }
+    matches!(value, Value::TheEnd)
 }
 
 // The item that has this name.
-fn item_of(name: &[u8]) -> Named
+fn item_of(name: &[u8]) -> Option<Item>
     ensures { result ≡ item_named name.now items }
 {
-    let mut k: usize = 0;
-    while k < 14 {
-        let item = ITEMS[k];
+    for item in ITEMS {
         if bench_words::is_text(name, item_text(item)) {
-            return Named::Is(item);
+            return Some(item);
         }
-        k += 1;
     }
-    Named::Nobody
+    None
 }
 
-fn metric_of(word: &[u8]) -> Number
+fn metric_of(word: &[u8]) -> Option<u64>
     ensures { result ≡ metric_of word.now }
 {
     if bench_words::is_text(word, *b"minimum.........................") {
-        return Number::Is(0);
+        return Some(0);
     }
     if bench_words::is_text(word, *b"maximum.........................") {
-        return Number::Is(1);
+        return Some(1);
     }
-    Number::Not
+    None
 }
 
 // What a word stands for where this value is expected.
-fn value_of(word: &[u8], value: Value) -> Number
+fn value_of(word: &[u8], value: Value) -> Option<u64>
     ensures { result ≡ value_of value word.now }
 {
     match value {
-        Value::TheEnd => Number::Not,
+        Value::TheEnd => None,
         Value::AnId => bench_words::number_of(word, 0xFFFF),
         Value::ASmall => bench_words::number_of(word, 0xFFFF_FFFF),
         Value::AWhole => bench_words::number_of(word, 0xFFFF_FFFF_FFFF_FFFF),
@@ -414,120 +367,102 @@ fn keep(cells: [u64; 10], field: Field, value: u64) -> [u64; 10]
     ensures { result ≡ kept field value cells }
 {
     let mut row = cells;
-    row[2] = row[2] | field.flag;
-    let cell = field.cell;
-    if cell < 10 {
-        row[cell] = value;
-        return row;
+    row[2] |= field.flag;
+    if field.cell < 10 {
+        row[field.cell] = value;
     }
     row
 }
 
 // What was expected where a field is wrong.
-fn wrong(cells: [u64; 10], at: usize, or: Word, what: Wanted) -> Progress
-    ensures { result ≡ progress_at cells at or (Faults.Wrong (wants or what)) }
+fn wrong(progress: Progress, what: Wanted) -> Mistake
+    ensures { result ≡ stops_at progress.at (wants progress.or what) }
 {
-    Progress {
-        cells,
-        at,
-        or,
-        fault: Fault::Wrong(Expected { or, what }),
+    Mistake {
+        at: progress.at,
+        expected: Expected {
+            or: progress.or,
+            what,
+        },
     }
 }
 
-fn fine(cells: [u64; 10], at: usize, or: Word) -> Progress
-    ensures { result ≡ progress_at cells at or Faults.Fine }
+// The value of a field, from where the line is read on.
+fn read_value(line: &[u8], progress: Progress, field: Field) -> Result<Progress, Mistake>
+    requires { progress.at ≤ length line.now }
+    ensures { (place_of result ≤ length line.now) × (course_of result ≡ read_value line.now field progress.or progress.at progress.cells) }
 {
-    Progress {
-        cells,
-        at,
-        or,
-        fault: Fault::Fine,
-    }
-}
-
-// The value of a field, from `at` on; `or` was left out before it.
-fn read_value(line: &[u8], at: usize, or: Word, cells: [u64; 10], field: Field) -> Progress
-    requires { at ≤ length line.now }
-    ensures { (result.at ≤ length line.now) × (course_of result ≡ read_value line.now field or at cells) }
-{
-    let value = field.value;
-    let span = bench_words::next_word(line, at);
-    let start = span.start;
-    let end = span.end;
+    let Span { start, end } = bench_words::next_word(line, progress.at);
     if end <= start {
-        if is_end(value) {
-            return fine(cells, at, Word::Nothing);
+        if is_end(field.value) {
+            return Ok(Progress {
+                or: Word::Nothing,
+                ..progress
+            });
         }
-        return wrong(cells, at, or, Wanted::AValue(value));
+        return Err(wrong(progress, Wanted::AValue(field.value)));
     }
-    match value_of(&line[start..end], value) {
-        Number::Is(n) => {
-            let row = keep(cells, field, n);
-            fine(row, end, Word::Nothing)
-        }
-        Number::Not => wrong(cells, at, or, Wanted::AValue(value)),
-    }
+    let Some(n) = value_of(&line[start..end], field.value) else {
+        return Err(wrong(progress, Wanted::AValue(field.value)));
+    };
+    Ok(Progress {
+        cells: keep(progress.cells, field, n),
+        at: end,
+        or: Word::Nothing,
+    })
 }
 
 // A field whose word is not there.
-fn left_out(at: usize, or: Word, cells: [u64; 10], field: Field) -> Progress
-    ensures { (result.at ≡ at) × (course_of result ≡ left_out field or at cells) }
+fn left_out(progress: Progress, field: Field) -> Result<Progress, Mistake>
+    ensures { (place_of result ≡ progress.at) × (course_of result ≡ left_out field progress.or progress.at progress.cells) }
 {
-    let word = field.word;
     if field.flag == 0 {
-        return wrong(cells, at, or, Wanted::TheWord(word));
+        return Err(wrong(progress, Wanted::TheWord(field.word)));
     }
-    fine(cells, at, word)
+    Ok(Progress {
+        or: field.word,
+        ..progress
+    })
 }
 
-// A field, from `at` on: its word, if it has one, and then its value. `or` was left out before it.
-fn read_field(line: &[u8], at: usize, or: Word, cells: [u64; 10], field: Field) -> Progress
-    requires { at ≤ length line.now }
-    ensures { (result.at ≤ length line.now) × (course_of result ≡ read_field line.now field or at cells) }
+// A field, from where the line is read on: its word, if it has one, and then its value.
+fn read_field(line: &[u8], progress: Progress, field: Field) -> Result<Progress, Mistake>
+    requires { progress.at ≤ length line.now }
+    ensures { (place_of result ≤ length line.now) × (course_of result ≡ read_field line.now field progress.or progress.at progress.cells) }
 {
-    let word = field.word;
-    if !has_word(word) {
-        return read_value(line, at, or, cells, field);
+    if !has_word(field.word) {
+        return read_value(line, progress, field);
     }
-    let span = bench_words::next_word(line, at);
-    let start = span.start;
-    let end = span.end;
+    let Span { start, end } = bench_words::next_word(line, progress.at);
     if end <= start {
-        return left_out(at, or, cells, field);
+        return left_out(progress, field);
     }
-    if bench_words::is_text(&line[start..end], word_text(word)) {
-        return read_value(line, end, Word::Nothing, cells, field);
+    if bench_words::is_text(&line[start..end], word_text(field.word)) {
+        let behind = Progress {
+            at: end,
+            or: Word::Nothing,
+            ..progress
+        };
+        return read_value(line, behind, field);
     }
-    left_out(at, or, cells, field)
+    left_out(progress, field)
 }
 
 // The fields of an item, from `from` on.
-fn read_form(line: &[u8], from: usize, item: Item) -> Progress
+fn read_form(line: &[u8], from: usize, item: Item) -> Result<Progress, Mistake>
     requires { from ≤ length line.now }
-    ensures { (result.at ≤ length line.now) × (course_of result ≡ read_fields line.now (fields_in (form_of item)) Words.Nothing from (start_of item)) }
+    ensures { (place_of result ≤ length line.now) × (course_of result ≡ read_fields line.now (fields_in (form_of item)) Words.Nothing from (start_of item)) }
 {
     let form = form_of(item);
-    let mut cells = start_of(item);
-    let mut at = from;
-    let mut or = Word::Nothing;
-    let mut k: usize = 0;
-    while k < 8 {
-        let field = field_in(form, k);
-        let progress = read_field(line, at, or, cells, field);
-        let fault = progress.fault;
-        match fault {
-            Fault::Wrong(_) => return progress,
-            Fault::Fine => {
-                let row = progress.cells;
-                cells = row;
-                at = progress.at;
-                or = progress.or;
-                k += 1;
-            }
-        }
+    let mut progress = Progress {
+        cells: start_of(item),
+        at: from,
+        or: Word::Nothing,
+    };
+    for k in 0..8 {
+        progress = read_field(line, progress, field_in(form, k))?;
     }
-    fine(cells, at, or)
+    Ok(progress)
 }
 
 // The column of the next word from a place on, or of the line's end.
@@ -543,28 +478,27 @@ fn wrong_at(line: &[u8], expected: Expected, at: usize) -> Line
     ensures { result ≡ wrong_at line.now expected at }
 {
     Line {
-        said: Said::Wrong(expected),
+        said: Err(expected),
         column: column_at(line, at),
         cells: [0; 10],
     }
 }
 
 // What a line says whose item is read so far.
-fn ended(line: &[u8], item: Item, progress: Progress) -> Line
-    requires { progress.at ≤ length line.now }
-    ensures { result ≡ line_of line.now item (course_of progress) }
+fn ended(line: &[u8], item: Item, course: Result<Progress, Mistake>) -> Line
+    requires { place_of course ≤ length line.now }
+    ensures { result ≡ line_of line.now item (course_of course) }
 {
-    let fault = progress.fault;
-    match fault {
-        Fault::Fine => {
+    match course {
+        Ok(progress) => {
             let cells = progress.cells;
             Line {
-                said: Said::Row(item),
+                said: Ok(Some(item)),
                 column: column_at(line, 0),
                 cells,
             }
         }
-        Fault::Wrong(e) => wrong_at(line, e, progress.at),
+        Err(Mistake { at, expected }) => wrong_at(line, expected, at),
     }
 }
 
@@ -572,18 +506,16 @@ fn ended(line: &[u8], item: Item, progress: Progress) -> Line
 pub fn read_line(line: &[u8]) -> Line
     ensures { result ≡ read_line line.now }
 {
-    let span = bench_words::next_word(line, 0);
-    let start = span.start;
-    let end = span.end;
+    let Span { start, end } = bench_words::next_word(line, 0);
     if end <= start {
         return Line {
-            said: Said::Nothing,
+            said: Ok(None),
             column: column_at(line, 0),
             cells: [0; 10],
         };
     }
     match item_of(&line[start..end]) {
-        Named::Is(item) => ended(line, item, read_form(line, end, item)),
-        Named::Nobody => wrong_at(line, only(Wanted::AnItem), 0),
+        Some(item) => ended(line, item, read_form(line, end, item)),
+        None => wrong_at(line, only(Wanted::AnItem), 0),
     }
 }
