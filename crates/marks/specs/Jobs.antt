@@ -1,5 +1,5 @@
 -- A stopwatch's jobs in lent words: from the words to the rules' list of jobs, and what is read from it. Assumes nothing.
-use Rattle.std.specs.Prelude.{ℕ, ◌+◌, Bool, ◌&&◌, List, [], ◌∷◌, map, length, from_bits, nat_le, slice_index, Float, if◌then◌else◌, None, Some, Option}
+use Rattle.std.specs.Prelude.{ℕ, ◌+◌, Bool, ◌&&◌, List, [], ◌∷◌, map, length, from_bits, nat_le, slice_index, Float, if◌then◌else◌, None, Some, Option, Result, Ok, Err}
 use Rattle.std.specs.Float.{binary64}
 use Rattle.times.specs.Time.{is_timer}
 use Rattle.times.specs.Answers.{time_of_bits}
@@ -9,10 +9,10 @@ use Rattle.rules.specs.Base.{every, hold, from}
 use Rattle.rules.specs.Simulation.{Marks}
 use Rattle.rules.specs.Models.{durations, fetched, mean}
 use Rattle.rules.specs.Valid.{marks_rules, differ, names}
-use Rattle.marks.specs.declared.Fetched.{Fetched}
-use Rattle.marks.specs.declared.Fetched.TheVariants as fetching
-use Rattle.marks.specs.declared.MeanOf.{MeanOf}
-use Rattle.marks.specs.declared.MeanOf.TheVariants as meaning
+use Rattle.marks.specs.declared.CutShort.{CutShort}
+
+abbrev pub cut_short : CutShort
+cut_short = record {}
 
 -- the words of 64 jobs: names, starts, stops
 abbrev pub starts_at : ℕ
@@ -56,16 +56,12 @@ unfoldable pub fit_in : ℕ → List ℕ → Bool
 fit_in held words =
     hold (whole_in held words ∷ every (words_fit words) (from 0 held) ∷ every (λ j. hold (marks_rules j)) (jobs_in held words) ∷ differ (names (jobs_in held words)) ∷ [])
 
-abbrev pub first_job : List ℕ → Fetched
-first_job [] = fetching.Nothing
-first_job (name ∷ more) = fetching.Job name
+abbrev pub first_job : List ℕ → Option ℕ
+first_job [] = None
+first_job (name ∷ more) = Some name
 
-unfoldable pub fetched_in : Metric → ℕ → List ℕ → Fetched
-fetched_in metric held words = if whole_in held words then first_job (fetched metric (durations (jobs_in held words))) else fetching.CutShort
+unfoldable pub fetched_in : Metric → ℕ → List ℕ → Result (Option ℕ) CutShort
+fetched_in metric held words = if whole_in held words then Ok (first_job (fetched metric (durations (jobs_in held words)))) else Err cut_short
 
-abbrev pub some_mean : Option Float → MeanOf
-some_mean None = meaning.Nothing
-some_mean (Some x) = meaning.Mean x
-
-unfoldable pub mean_in : ℕ → List ℕ → MeanOf
-mean_in held words = if whole_in held words then some_mean (mean (durations (jobs_in held words))) else meaning.CutShort
+unfoldable pub mean_in : ℕ → List ℕ → Result (Option Float) CutShort
+mean_in held words = if whole_in held words then Ok (mean (durations (jobs_in held words))) else Err cut_short

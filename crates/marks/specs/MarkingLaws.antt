@@ -1,5 +1,5 @@
 -- The laws of a stopwatch's jobs in lent words, for other crates: what the rules say of them, and what a mark keeps. Assumes nothing.
-use Rattle.std.specs.Prelude.{◌≡◌, ℕ, zero, suc, ◌+◌, ◌-◌, ◌^◌, ◌<◌, ◌≤◌, Bool, true, false, T, ◌⊎◌, List, [], ◌∷◌, ◌++◌, map, length, take, drop, set, ◌==◌, ◌≢◌, nat_le, nat_lt, slice_index, slice_index_or, slice_set, refl, Float, if◌then◌else◌, None, Option, Some}
+use Rattle.std.specs.Prelude.{◌≡◌, ℕ, zero, suc, ◌+◌, ◌-◌, ◌^◌, ◌<◌, ◌≤◌, Bool, true, false, T, ◌⊎◌, List, [], ◌∷◌, ◌++◌, map, length, take, drop, set, ◌==◌, ◌≢◌, nat_le, nat_lt, slice_index, slice_index_or, slice_set, refl, Float, if◌then◌else◌, None, Option, Some, Result, Ok, Err}
 use Rattle.std.proofs.Common.{sym, ap, ◌∙◌, subst, arith, eq-or-lt_of_le, inl, inr, ⊎_elim, length-set, drop-cons, drop-set-lt, get_or-take, get_or-set_same, get_or-set_other, leb→le, le→leb, eqb→eq, lt→ltb}
 use borrow.Author.Tests.{lt-ltb, le-ltb, ltb-true, ltb-false, eqb-true, eqb-false}
 use Rattle.std.proofs.lemmas.Simd.{map-map}
@@ -23,8 +23,8 @@ use Rattle.rules.specs.Decides.{Differ, differ-decides, tells, passes}
 use Rattle.words.specs.Lists.{length-lines, map-from, map_last}
 use Rattle.words.specs.Search.{first_from}
 use Rattle.words.specs.SearchLaws.{is_found, first-at, first_some}
-use Rattle.marks.specs.declared.Marking.{Marking}
-use Rattle.marks.specs.declared.Marking.TheVariants.{Held, NoRoom, CutShort}
+use Rattle.marks.specs.declared.Unmarked.{Unmarked}
+use Rattle.marks.specs.declared.Unmarked.TheVariants.{NoRoom, CutShort}
 use Rattle.marks.specs.declared.Mark.{Mark}
 use Rattle.marks.specs.declared.Mark.TheVariants.{Start, Stop}
 use Rattle.marks.specs.Jobs.{starts_at, stops_at, width, time_in, mark_in, job_at, jobs_in, whole_in, mark_fits, words_fit, fit_in}
@@ -117,30 +117,30 @@ whole_is held words a b = is_true (whole_in held words) (and_i (nat_le held most
 
 -- ---- a mark's four answers
 module _ (mark : Mark) (held name : ℕ) (clock : Float) (words : List ℕ) where
-  pub marked-short : whole_in held words ≡ false → marked_in mark held name clock words ≡ (CutShort, words)
+  pub marked-short : whole_in held words ≡ false → marked_in mark held name clock words ≡ (Err CutShort, words)
   unfolding marked_in
   marked-short e = rw e
 
   module _ (whole : whole_in held words ≡ true) where
-    pub marked-at : (k : ℕ) → first_from (is_named_at words name) 0 held ≡ Some k → marked_in mark held name clock words ≡ (Held held, mark_at mark clock k words)
+    pub marked-at : (k : ℕ) → first_from (is_named_at words name) 0 held ≡ Some k → marked_in mark held name clock words ≡ (Ok held, mark_at mark clock k words)
     unfolding marked_in
     marked-at k e = rw (whole, e)
 
     module _ (None : first_from (is_named_at words name) 0 held ≡ None) where
-      pub marked-full : held ≡ most_jobs → marked_in mark held name clock words ≡ (NoRoom, words)
+      pub marked-full : held ≡ most_jobs → marked_in mark held name clock words ≡ (Err NoRoom, words)
       unfolding marked_in
       marked-full e = rw (whole, None, le-ltb held most_jobs (omega arith))
 
-      pub marked-new : (held ≢ most_jobs) → marked_in mark held name clock words ≡ (Held (suc held), mark_at mark clock held (with_name held name words))
+      pub marked-new : (held ≢ most_jobs) → marked_in mark held name clock words ≡ (Ok (suc held), mark_at mark clock held (with_name held name words))
       unfolding marked_in
       marked-new n = rw (whole, None, lt-ltb held most_jobs (omega (arith, (whole_says held words whole).0)))
 
   -- what holds of each answer holds of the mark
-  marked-cases : (P : Marking × List ℕ → Type 0)
-      → (whole_in held words ≡ false → P (CutShort, words))
-      → (whole_in held words ≡ true → (k : ℕ) → first_from (is_named_at words name) 0 held ≡ Some k → P (Held held, mark_at mark clock k words))
-      → (whole_in held words ≡ true → first_from (is_named_at words name) 0 held ≡ None → held ≡ most_jobs → P (NoRoom, words))
-      → (whole_in held words ≡ true → first_from (is_named_at words name) 0 held ≡ None → held < most_jobs → P (Held (suc held), mark_at mark clock held (with_name held name words)))
+  marked-cases : (P : Result ℕ Unmarked × List ℕ → Type 0)
+      → (whole_in held words ≡ false → P (Err CutShort, words))
+      → (whole_in held words ≡ true → (k : ℕ) → first_from (is_named_at words name) 0 held ≡ Some k → P (Ok held, mark_at mark clock k words))
+      → (whole_in held words ≡ true → first_from (is_named_at words name) 0 held ≡ None → held ≡ most_jobs → P (Err NoRoom, words))
+      → (whole_in held words ≡ true → first_from (is_named_at words name) 0 held ≡ None → held < most_jobs → P (Ok (suc held), mark_at mark clock held (with_name held name words)))
       → P (marked_in mark held name clock words)
   marked-cases P short at full new = by_whole (whole_in held words) refl
     where
@@ -309,20 +309,19 @@ marked-beyond mark held name clock words =
         ∙ drop-set-lt width words held name (omega arith)
 
 -- an answer that refuses leaves the words as they are
-abbrev pub is_held : Marking → Bool
-is_held (Held h) = true
-is_held NoRoom = false
-is_held CutShort = false
+abbrev pub is_held : Result ℕ Unmarked → Bool
+is_held (Ok h) = true
+is_held (Err e) = false
 
 pub refused-keeps : (mark : Mark) (held name : ℕ) (clock : Float) (words : List ℕ) → is_held (marked_in mark held name clock words).0 ≡ false → (marked_in mark held name clock words).1 ≡ words
 refused-keeps mark held name clock words =
     marked-cases mark held name clock words (λ r. is_held r.0 ≡ false → r.1 ≡ words) (λ w f. refl) (λ w k e f. cc) (λ w n e f. refl) (λ w n l f. cc)
 
 -- ---- a mark is what the rules say of it
-abbrev pub outcome_of : Marking × List ℕ → Outcome (List Marks)
-outcome_of (Held h, after) = done (jobs_in h after)
-outcome_of (NoRoom, after) = refused NoQueueRoom
-outcome_of (CutShort, after) = refused BadState
+abbrev pub outcome_of : Result ℕ Unmarked × List ℕ → Outcome (List Marks)
+outcome_of (Ok h, after) = done (jobs_in h after)
+outcome_of (Err NoRoom, after) = refused NoQueueRoom
+outcome_of (Err CutShort, after) = refused BadState
 
 some-named : (held name : ℕ) (words : List ℕ) → some_of (is_named name) (jobs_in held words) ≡ is_found (first_from (is_named_at words name) 0 held)
 some-named held name words = some-map (is_named name) (job_at words) (from 0 held) ∙ sym (first_some (is_named_at words name) 0 held)
@@ -436,14 +435,13 @@ unused-is held words low f = every-from (is_clear words) held (most_jobs - held)
 
 -- ---- what a mark keeps
 -- what a fact says of the words after, where the mark was set
-abbrev WhenHeld : (ℕ → List ℕ → Type 0) → Marking × List ℕ → Type 0
-WhenHeld P (Held h, after) = P h after
-WhenHeld P (NoRoom, after) = Unit
-WhenHeld P (CutShort, after) = Unit
+abbrev WhenHeld : (ℕ → List ℕ → Type 0) → Result ℕ Unmarked × List ℕ → Type 0
+WhenHeld P (Ok h, after) = P h after
+WhenHeld P (Err e, after) = Unit
 
 module _ (mark : Mark) (held name : ℕ) (clock : Float) (words : List ℕ) where
   -- the words are as whole as they were
-  pub kept_whole : (h : ℕ) (after : List ℕ) → marked_in mark held name clock words ≡ (Held h, after) → whole_in h after ≡ true
+  pub kept_whole : (h : ℕ) (after : List ℕ) → marked_in mark held name clock words ≡ (Ok h, after) → whole_in h after ≡ true
   kept_whole h after e =
       subst (WhenHeld (λ h after. whole_in h after ≡ true)) e
       (marked-cases mark held name clock words (WhenHeld (λ h after. whole_in h after ≡ true))
@@ -453,7 +451,7 @@ module _ (mark : Mark) (held name : ℕ) (clock : Float) (words : List ℕ) wher
       (λ w n l. whole_is (suc held) (mark_at mark clock held (with_name held name words)) l (simp length-set (whole_says held words w).1)))
 
   -- the unused places stay clear
-  pub unused-kept : T (unused_in held words) → (h : ℕ) (after : List ℕ) → marked_in mark held name clock words ≡ (Held h, after) → T (unused_in h after)
+  pub unused-kept : T (unused_in held words) → (h : ℕ) (after : List ℕ) → marked_in mark held name clock words ≡ (Ok h, after) → T (unused_in h after)
   unused-kept t h after e =
       subst (WhenHeld (λ h after. T (unused_in h after))) e
       (marked-cases mark held name clock words (WhenHeld (λ h after. T (unused_in h after)))
@@ -538,7 +536,7 @@ module _ (mark : Mark) (held name : ℕ) (clock : Float) (words : List ℕ) wher
               let l : j < held = omega arith in
               same-fits after j (new_others mark clock words held name low j (omega arith) z) (fit-cells held words fit j l)
 
-    pub kept-fit : T (fit_in held words) → name < 2 ^ 32 → (h : ℕ) (after : List ℕ) → marked_in mark held name clock words ≡ (Held h, after) → T (fit_in h after)
+    pub kept-fit : T (fit_in held words) → name < 2 ^ 32 → (h : ℕ) (after : List ℕ) → marked_in mark held name clock words ≡ (Ok h, after) → T (fit_in h after)
     kept-fit t c h after e =
         let fit = fit-rules held words (is_true (fit_in held words) t) in
         subst (WhenHeld (λ h after. T (fit_in h after))) e

@@ -1,12 +1,12 @@
 -- The laws of the loops: one job more, the end, and what a test showed. Assumes nothing.
-use Rattle.std.specs.Prelude.{◌≡◌, ℕ, zero, suc, ◌+◌, ◌-◌, ◌*◌, ◌^◌, ◌<◌, ◌≤◌, Bool, true, false, not, ◌&&◌, T, List, [], ◌∷◌, map, length, pos, ◌==◌, ◌≢◌, nat_eq, slice_index, refl, Float, if◌then◌else◌, None, Some, Option}
+use Rattle.std.specs.Prelude.{◌≡◌, ℕ, zero, suc, ◌+◌, ◌-◌, ◌*◌, ◌^◌, ◌<◌, ◌≤◌, Bool, true, false, not, ◌&&◌, T, List, [], ◌∷◌, map, length, pos, ◌==◌, ◌≢◌, nat_eq, slice_index, refl, Float, if◌then◌else◌, None, Some, Option, is_some}
 use Rattle.std.proofs.Common.{sym, ap, ◌∙◌, subst, arith, div-one, lt-ltb, le-ltb}
 use Rattle.std.specs.Float.{binary64}
 use Rattle.std.specs.Float.Ieee.{add, div, of_int}
 use Rattle.std.specs.Float.Ieee.Bits.{is_true}
 use Rattle.times.specs.Time.{instant, is_time, is_timer}
 use Rattle.times.specs.Answers.{time_of_bits, timer_of_bits}
-use Rattle.times.proofs.AnswerLaws.{time-says, timer-says}
+use Rattle.times.proofs.AnswerLaws.{time-says, timer-says, no-timer-says}
 use Rattle.rules.specs.declared.Metric.{Metric}
 use Rattle.rules.specs.Sizes.{is_content}
 use Rattle.rules.specs.Base.{hold, every, some_of, from}
@@ -15,14 +15,12 @@ use Rattle.rules.specs.Models.{Duration, between, durations, better, best_of, fe
 use Rattle.rules.specs.Valid.{mark_fits as fitting, marks_rules, names, member, differ}
 use Rattle.words.specs.Search.{cell_of, first_from, matches, next_row}
 use Rattle.words.specs.SearchLaws.{is_found, first_some, first-ext, next-row-first}
-use Rattle.words.specs.declared.Key.{Key}
+use Rattle.words.specs.declared.Cell.{Cell}
 use Rattle.marks.specs.declared.Best.{Best}
 use Rattle.marks.specs.declared.Total.{Total}
-use Rattle.marks.specs.declared.Fetched.TheVariants as fetching
-use Rattle.marks.specs.declared.MeanOf.TheVariants as meaning
 use Rattle.marks.specs.declared.Mark.{Mark}
 use Rattle.marks.specs.declared.Mark.TheVariants.{Start, Stop}
-use Rattle.marks.specs.Jobs.{starts_at, stops_at, time_in, mark_in, job_at, jobs_in, whole_in, mark_fits, words_fit, fit_in, first_job, some_mean}
+use Rattle.marks.specs.Jobs.{starts_at, stops_at, time_in, mark_in, job_at, jobs_in, whole_in, mark_fits, words_fit, fit_in, first_job}
 use Rattle.marks.specs.Marking.{column_of}
 use Rattle.marks.specs.Sweeps.{lasting_of, lasting_at, durations_from, duration_of, better_with, better_at, best_from, fetched_from, added_with, added_at, no_total, total_from, is_named_at, fit_at, fit_from}
 
@@ -65,7 +63,7 @@ fetched-open metric words k n e =
     ap (λ ds. first_job (fetched metric ds)) (durations-next words k n ∙ ap (λ l. joined (slice_index words k) l (durations_from words (suc k) n)) e)
 
 pub fetched-lasted : (metric : Metric) (words : List ℕ) (k n : ℕ) (d : Float) → lasting_at words k ≡ Some d
-    → fetched_from metric words k (suc n) ≡ fetching.Job (best_from metric words (record { name = slice_index words k; length = d }) (suc k) n)
+    → fetched_from metric words k (suc n) ≡ Some (best_from metric words (record { name = slice_index words k; length = d }) (suc k) n)
 unfolding fetched_from best_from
 fetched-lasted metric words k n d e =
     ap (λ ds. first_job (fetched metric ds)) (durations-next words k n ∙ ap (λ l. joined (slice_index words k) l (durations_from words (suc k) n)) e)
@@ -112,7 +110,7 @@ pub best-end : (metric : Metric) (words : List ℕ) (best : Best) (k held : ℕ)
 unfolding best_from durations_from
 best-end metric words best k held h = ended (best_from metric words best k) k held h
 
-pub fetched-end : (metric : Metric) (words : List ℕ) (k held : ℕ) → held ≤ k → fetched_from metric words k (held - k) ≡ fetching.Nothing
+pub fetched-end : (metric : Metric) (words : List ℕ) (k held : ℕ) → held ≤ k → fetched_from metric words k (held - k) ≡ None
 unfolding fetched_from durations_from
 fetched-end metric words k held h = ended (fetched_from metric words k) k held h
 
@@ -123,11 +121,11 @@ total-end words total k held h =
     ended (total_from words total k) k held h ∙ ap (λ c. record { sum = total.sum; count = c }) e
 
 -- ---- the count is 0 where there is no mean
-pub mean-none : (held : ℕ) (words : List ℕ) (total : Total) → total ≡ total_from words no_total 0 held → total.count ≡ 0 → some_mean (mean (durations (jobs_in held words))) ≡ meaning.Nothing
+pub mean-none : (held : ℕ) (words : List ℕ) (total : Total) → total ≡ total_from words no_total 0 held → total.count ≡ 0 → (mean (durations (jobs_in held words))) ≡ None
 unfolding total_from durations_from
 mean-none held words total e z = go (durations (jobs_in held words)) (sym (ap (λ (t : Total). t.count) e) ∙ z)
   where
-    go : (ds : List Duration) → 0 + length ds ≡ 0 → some_mean (mean ds) ≡ meaning.Nothing
+    go : (ds : List Duration) → 0 + length ds ≡ 0 → (mean ds) ≡ None
     go [] h = refl
     go (d ∷ ds) h = absurd (more (length ds) h)
       where
@@ -135,28 +133,22 @@ mean-none held words total e z = go (durations (jobs_in held words)) (sym (ap (�
         more n h = omega arith
 
 pub mean-some : (held : ℕ) (words : List ℕ) (total : Total) → total ≡ total_from words no_total 0 held → (total.count ≢ 0)
-    → some_mean (mean (durations (jobs_in held words))) ≡ meaning.Mean (div binary64 total.sum (of_int binary64 (pos total.count)))
+    → (mean (durations (jobs_in held words))) ≡ Some (div binary64 total.sum (of_int binary64 (pos total.count)))
 unfolding total_from durations_from
 mean-some held words total e z = go (durations (jobs_in held words)) (ap (λ (t : Total). t.sum) e) (ap (λ (t : Total). t.count) e)
   where
     go : (ds : List Duration) → total.sum ≡ summed instant ds → total.count ≡ 0 + length ds
-        → some_mean (mean ds) ≡ meaning.Mean (div binary64 total.sum (of_int binary64 (pos total.count)))
+        → (mean ds) ≡ Some (div binary64 total.sum (of_int binary64 (pos total.count)))
     go [] s c = absurd (z c)
     go (d ∷ ds) s c = let n : total.count ≡ length (d ∷ ds) = omega arith in rw (s, n)
 
 -- ---- a name is looked for
-abbrev pub key_of : ℕ → Key
-key_of name =
-    record {
-      first = record { at = 0; value = name };
-      second = record { at = 0; value = name };
-      third = record { at = 0; value = name };
-      fourth = record { at = 0; value = name };
-    }
+abbrev pub key_of : ℕ → List Cell
+key_of name = record { at = 0; value = name } ∷ []
 
-four-times : (b : Bool) → b && b && b && b ≡ b
-four-times true = refl
-four-times false = refl
+once : (b : Bool) → (if b then true else false) ≡ b
+once true = refl
+once false = refl
 
 -- among rows of one word, the search is one for a name
 pub find-is : (words : List ℕ) (start held name : ℕ) → held ≤ length words → next_row (key_of name) 1 start held words ≡ first_from (is_named_at words name) start (held - start)
@@ -165,7 +157,7 @@ find-is words start held name h =
     ∙ first-ext (matches (key_of name) 1 words) (is_named_at words name) start (held - start) (λ k _ _. same k)
   where
     same : (k : ℕ) → matches (key_of name) 1 words k ≡ is_named_at words name k
-    same k = let e : k * 1 + 0 ≡ k = omega arith in four-times (cell_of 1 words k 0 == name) ∙ ap (λ j. nat_eq (slice_index words j) name) e
+    same k = let e : k * 1 + 0 ≡ k = omega arith in once (cell_of 1 words k 0 == name) ∙ ap (λ j. nat_eq (slice_index words j) name) e
 
 pub some-map : {A B : Type 0} (test : B → Bool) (f : A → B) (xs : List A) → some_of test (map f xs) ≡ some_of (λ x. test (f x)) xs
 some-map test f [] = refl
@@ -238,6 +230,19 @@ fit-turn words k held h = turn (fit_from words) (λ j n. fit_at words k n && fit
 -- ---- what a test showed
 pub timer-fits : (word : ℕ) (x : Float) → timer_of_bits word ≡ Some x → mark_fits word ≡ true
 timer-fits word x e = let w = timer-says word x e in is_true (mark_fits word) (subst (λ y. T (is_timer y)) w.1 w.0)
+
+pub some-read : (word : ℕ) → is_some (timer_of_bits word) ≡ mark_fits word
+some-read word = go (timer_of_bits word) refl
+  where
+    go : (t : Option Float) → timer_of_bits word ≡ t → is_some t ≡ mark_fits word
+    go (Some x) e = sym (timer-fits word x e)
+    go None e = sym (no-timer-says word e)
+
+pub none-found : (r : Option ℕ) (b : Bool) → is_some r ≡ not b → b ≡ (if not (is_found r) then true else false)
+none-found (Some j) true e = cc
+none-found (Some j) false e = refl
+none-found None true e = refl
+none-found None false e = cc
 
 pub content-low : (name : ℕ) → name ≤ 0xFFFF_FFFF → is_content name ≡ true
 content-low name h = lt-ltb name (2 ^ 32) (omega arith)

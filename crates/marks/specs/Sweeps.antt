@@ -11,7 +11,6 @@ use Rattle.words.specs.Search.{first_from}
 use Rattle.words.specs.SearchLaws.{is_found}
 use Rattle.marks.specs.declared.Best.{Best}
 use Rattle.marks.specs.declared.Total.{Total}
-use Rattle.marks.specs.declared.Fetched.{Fetched}
 use Rattle.marks.specs.Jobs.{starts_at, stops_at, mark_in, mark_fits, job_at, first_job}
 
 -- ---- durations
@@ -41,7 +40,7 @@ better_at metric words best k = better_with metric best (slice_index words k) (l
 unfoldable pub best_from : Metric → List ℕ → Best → ℕ → ℕ → ℕ
 best_from metric words best k n = (best_of metric (duration_of best) (durations_from words k n)).name
 
-unfoldable pub fetched_from : Metric → List ℕ → ℕ → ℕ → Fetched
+unfoldable pub fetched_from : Metric → List ℕ → ℕ → ℕ → Option ℕ
 fetched_from metric words k n = first_job (fetched metric (durations_from words k n))
 
 -- ---- the sum and the number

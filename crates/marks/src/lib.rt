@@ -9,7 +9,7 @@ ghost use Rattle.marks.specs.Marking.{column_of, with_name, mark_at, marked_in};
 ghost use Rattle.marks.specs.Sweeps.{lasting_at, better_at, best_from, fetched_from, added_at, no_total, total_from, fit_at, fit_from};
 
 use rules::Metric;
-use words::{Cell, Key};
+use words::Cell;
 
 #[derive(Clone, Copy)]
 pub enum Mark {
@@ -17,27 +17,16 @@ pub enum Mark {
     Stop,
 }
 
+// The words are cut short, or more than 64 names are said to be held.
 #[derive(Clone, Copy)]
-pub enum Marking {
-    // So many names are held now.
-    Held(u64),
+pub struct CutShort;
+
+// Why a mark is not set.
+#[derive(Clone, Copy)]
+pub enum Unmarked {
     // A new name, and 64 are held.
     NoRoom,
     // The words are cut short, or more than 64 names are said to be held.
-    CutShort,
-}
-
-#[derive(Clone, Copy)]
-pub enum Fetched {
-    Job(u64),
-    Nothing,
-    CutShort,
-}
-
-#[derive(Clone, Copy)]
-pub enum MeanOf {
-    Mean(f64),
-    Nothing,
     CutShort,
 }
 
@@ -59,10 +48,7 @@ struct Total {
 fn whole(words: &[u64], held: u64) -> bool
     ensures { result ≡ whole_in held words.now }
 {
-    if 64 < held {
-        return false;
-    }
-    192 <= words.len()
+    held <= 64 && 192 <= words.len()
 }
 
 // Stop less start, where both are times.
@@ -70,14 +56,8 @@ fn length_of(words: &[u64], k: usize) -> Option<f64>
     requires { (k < 64) × (192 ≤ length words.now) }
     ensures { result ≡ lasting_at words.now k }
 {
-    let started = times::time_of_bits(words[64 + k]);
-    let Some(start) = started else {
-        return None;
-    };
-    let stopped = times::time_of_bits(words[128 + k]);
-    let Some(stop) = stopped else {
-        return None;
-    };
+    let start = times::time_of_bits(words[64 + k])?;
+    let stop = times::time_of_bits(words[128 + k])?;
     Some(stop - start)
 }
 
@@ -96,14 +76,13 @@ fn better_of(words: &[u64], metric: Metric, best: Best, k: usize) -> Best
     requires { (k < 64) × (192 ≤ length words.now) }
     ensures { result ≡ better_at metric words.now best k }
 {
-    let lasting = length_of(words, k);
-    let Some(length) = lasting else {
+    let Some(length) = length_of(words, k) else {
         return best;
     };
     if is_better(metric, length, best.length) {
         return Best {
             name: words[k],
-            length: length,
+            length,
         };
     }
     best
@@ -115,32 +94,27 @@ fn best_from(words: &[u64], held: usize, metric: Metric, first: Best, after: usi
     ensures { result ≡ best_from metric words.now first after (held - after) }
 {
     let mut best = first;
-    let mut k = after;
-    while k < held {
+    for k in after..held {
         best = better_of(words, metric, best, k);
-        k += 1;
     }
     best.name
 }
 
 // The first complete job, and the best from there on.
-fn fetch_from(words: &[u64], held: usize, metric: Metric) -> Fetched
+fn fetch_from(words: &[u64], held: usize, metric: Metric) -> Option<u64>
     requires { (held ≤ 64) × (192 ≤ length words.now) }
     ensures { result ≡ fetched_from metric words.now 0 held }
 {
-    let mut k = 0;
-    while k < held {
-        let lasting = length_of(words, k);
-        if let Some(length) = lasting {
+    for k in 0..held {
+        if let Some(length) = length_of(words, k) {
             let first = Best {
                 name: words[k],
-                length: length,
+                length,
             };
-            return Fetched::Job(best_from(words, held, metric, first, k + 1));
+            return Some(best_from(words, held, metric, first, k + 1));
         }
-        k += 1;
     }
-    Fetched::Nothing
+    None
 }
 
 // The job at the place k added to the total, if it is complete.
@@ -148,8 +122,7 @@ fn add_to(words: &[u64], total: Total, k: usize) -> Total
     requires { (total.count ≤ k) × (k < 64) × (192 ≤ length words.now) }
     ensures { result ≡ added_at words.now total k }
 {
-    let lasting = length_of(words, k);
-    let Some(length) = lasting else {
+    let Some(length) = length_of(words, k) else {
         return total;
     };
     Total {
@@ -164,10 +137,8 @@ fn total_of(words: &[u64], held: usize) -> Total
     ensures { result ≡ total_from words.now no_total 0 held }
 {
     let mut total = Total { sum: 0.0, count: 0 };
-    let mut k = 0;
-    while k < held {
+    for k in 0..held {
         total = add_to(words, total, k);
-        k += 1;
     }
     total
 }
@@ -177,25 +148,14 @@ fn find(words: &[u64], from: usize, held: usize, name: u64) -> Option<usize>
     requires { held ≤ length words.now }
     ensures { result ≡ first_from (λ k. nat_eq (slice_index words.now k) name) from (held - from) }
 {
-    let cell = Cell { at: 0, value: name };
-    let key = Key {
-        first: cell,
-        second: cell,
-        third: cell,
-        fourth: cell,
-    };
-    words::next_row(words, 1, from, held, key)
+    words::next_row(words, 1, from, held, &[Cell { at: 0, value: name }])
 }
 
 // Whether a word holds a time, or infinity.
 fn is_mark(word: u64) -> bool
     ensures { result ≡ mark_fits word }
 {
-    let timer = times::timer_of_bits(word);
-    match timer {
-        Some(_) => true,
-        None => false,
-    }
+    times::timer_of_bits(word).is_some()
 }
 
 // The job at the place k fits, and no job after it has its name.
@@ -204,20 +164,10 @@ fn fits_at(words: &[u64], k: usize, held: usize) -> bool
     ensures { result ≡ fit_at words.now k (held - (k + 1)) }
 {
     let name = words[k];
-    if 0xFFFF_FFFF < name {
-        return false;
-    }
-    if !is_mark(words[64 + k]) {
-        return false;
-    }
-    if !is_mark(words[128 + k]) {
-        return false;
-    }
-    let again = find(words, k + 1, held, name);
-    match again {
-        Some(_) => false,
-        None => true,
-    }
+    name <= 0xFFFF_FFFF
+        && is_mark(words[64 + k])
+        && is_mark(words[128 + k])
+        && find(words, k + 1, held, name).is_none()
 }
 
 // Whether each job fits, up to the first that does not.
@@ -225,12 +175,10 @@ fn fit_from(words: &[u64], held: usize) -> bool
     requires { (held ≤ 64) × (192 ≤ length words.now) }
     ensures { result ≡ fit_from words.now 0 held }
 {
-    let mut k = 0;
-    while k < held {
+    for k in 0..held {
         if !fits_at(words, k, held) {
             return false;
         }
-        k += 1;
     }
     true
 }
@@ -265,59 +213,61 @@ fn put_name(words: &mut [u64], k: usize, name: u64)
     words[128 + k] = unmade;
 }
 
-// Sets the clock on the job of that name, making it if it is new; how many names there are then. NoRoom for the 65th; CutShort where the words are cut short or more than 64 names are said to be held.
-pub fn set_mark(words: &mut [u64], held: u64, name: u64, mark: Mark, clock: f64) -> Marking
+// Sets the clock on the job of that name, making it if it is new; how many names there are then.
+pub fn set_mark(
+    words: &mut [u64],
+    held: u64,
+    name: u64,
+    mark: Mark,
+    clock: f64,
+) -> Result<u64, Unmarked>
     ensures { (result, words.new) ≡ marked_in mark held name clock words.old }
 {
     if !whole(words, held) {
-        return Marking::CutShort;
+        return Err(Unmarked::CutShort);
     }
     let end = held as usize;
-    let found = find(words, 0, end, name);
-    if let Some(k) = found {
+    if let Some(k) = find(words, 0, end, name) {
         put_mark(words, k, mark, clock);
-        return Marking::Held(held);
+        return Ok(held);
     }
     if held == 64 {
-        return Marking::NoRoom;
+        return Err(Unmarked::NoRoom);
     }
     put_name(words, end, name);
     put_mark(words, end, mark, clock);
-    Marking::Held(held + 1)
+    Ok(held + 1)
 }
 
-// The complete job of least or greatest stop less start, the first made among equals; or Nothing, or CutShort.
-pub fn fetch(words: &[u64], held: u64, metric: Metric) -> Fetched
+// The complete job of least or greatest stop less start, the first made among equals; or None.
+pub fn fetch(words: &[u64], held: u64, metric: Metric) -> Result<Option<u64>, CutShort>
     ensures { result ≡ fetched_in metric held words.now }
 {
     if !whole(words, held) {
-        return Fetched::CutShort;
+        return Err(CutShort);
     }
-    fetch_from(words, held as usize, metric)
+    Ok(fetch_from(words, held as usize, metric))
 }
 
-// The mean of the complete durations; or Nothing where none is complete, or CutShort.
-pub fn mean(words: &[u64], held: u64) -> MeanOf
+// The mean of the complete durations; or None where none is complete.
+pub fn mean(words: &[u64], held: u64) -> Result<Option<f64>, CutShort>
     ensures { result ≡ mean_in held words.now }
 {
     if !whole(words, held) {
-        return MeanOf::CutShort;
+        return Err(CutShort);
     }
     let total = total_of(words, held as usize);
     let count = total.count;
     if count == 0 {
-        return MeanOf::Nothing;
+        return Ok(None);
     }
     let number = std::num::nearest_u64_to_f64(count);
-    MeanOf::Mean(total.sum / number)
+    Ok(Some(total.sum / number))
 }
 
 // Whether the names and marks are what 20 asks.
 pub fn fit(words: &[u64], held: u64) -> bool
     ensures { result ≡ fit_in held words.now }
 {
-    if !whole(words, held) {
-        return false;
-    }
-    fit_from(words, held as usize)
+    whole(words, held) && fit_from(words, held as usize)
 }

@@ -5,9 +5,9 @@ use Rattle.marks.proofs.add_to.Goals as goal
 
 pub returns-in_default : goal.returns-in_default
 unfolding added_at
-returns-in_default c = rw (sym c.length_of-lasting.ensures ∙ c.in_default.is)
+returns-in_default c = rw (sym c.length_of.ensures ∙ c.in_default.is)
 
 pub returns : goal.returns
 unfolding added_at
 returns c =
-    rw (sym c.length_of-lasting.ensures ∙ c.in-Some.is)
+    rw (sym c.length_of.ensures ∙ c.in-Some.is)

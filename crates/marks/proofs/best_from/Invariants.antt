@@ -7,6 +7,3 @@ use Rattle.marks.proofs.best_from.Given as goal
 abbrev pub invariant-loop-k : goal.invariant-loop-k
 invariant-loop-k l =
     (l.k ≤ l.held) × T (fits binary64 l.best.length) × (best_from l.metric l.words l.best l.k (l.held - l.k) ≡ best_from l.metric l.words l.initial.best l.after (l.held - l.after))
-
-abbrev pub decreases-loop-k : goal.decreases-loop-k
-decreases-loop-k l = l.held - l.k

@@ -1,5 +1,5 @@
 -- `marks::fetch` meets its contract: by whether the words are whole. Assumes nothing.
-use Rattle.std.proofs.Common.{sym, ◌∙◌}
+use Rattle.std.proofs.Common.{sym, ◌∙◌, ap, Ok}
 use Rattle.marks.specs.Jobs.{fetched_in}
 use Rattle.marks.specs.MarkingLaws.{whole_says}
 use Rattle.marks.specs.Sweeps.{fetched_from, durations_from}
@@ -14,4 +14,4 @@ fetch_from-requires c = whole_says c.args.held c.args.words.now (sym c.whole.ens
 
 pub returns : goal.returns
 unfolding fetched_in fetched_from durations_from
-returns c = rw (sym c.whole.ensures ∙ c.if-not-whole.false) c.fetch_from.ensures
+returns c = rw (sym c.whole.ensures ∙ c.if-not-whole.false) (ap Ok c.fetch_from.ensures)

@@ -1,7 +1,6 @@
 -- `marks::fetch_from` meets its contract. The loop's invariant: the jobs passed are incomplete, so the rest gives the answer. Assumes nothing.
-use Rattle.std.proofs.Common.{get_or, sym, ap, ◌∙◌, rules}
+use Rattle.std.proofs.Common.{get_or, sym, ap, ◌∙◌, rules, Some}
 use Rattle.marks.specs.declared.Best.{Best}
-use Rattle.marks.specs.declared.Fetched.TheVariants.{Job}
 use Rattle.marks.specs.SweepLaws.{begun, fetched-open, fetched-lasted, fetched-end, turn}
 use Rattle.marks.specs.Sweeps.{best_from, fetched_from}
 use borrow.Author.Rules.{rules}
@@ -15,9 +14,9 @@ returns-in-Some c =
     let words = c.args.words.now in
     let metric = c.args.metric in
     let first : Best = record { name = get_or words c.loop-k.k 0; length = c.in-Some.length } in
-    ap Job c.best_from.ensures
-    ∙ sym (turn (fetched_from metric words) (λ k n. Job (best_from metric words first k n)) c.loop-k.k c.args.held
-    (λ n. fetched-lasted metric words c.loop-k.k n c.in-Some.length (sym c.length_of-lasting.ensures ∙ c.in-Some.is)) c.loop-k-test.true)
+    ap Some c.best_from.ensures
+    ∙ sym (turn (fetched_from metric words) (λ k n. Some (best_from metric words first k n)) c.loop-k.k c.args.held
+    (λ n. fetched-lasted metric words c.loop-k.k n c.in-Some.length (sym c.length_of.ensures ∙ c.in-Some.is)) c.loop-k-test.true)
     ∙ c.loop-k.invariant.1
 
 pub loop-k-preserved : goal.loop-k-preserved
@@ -26,7 +25,7 @@ loop-k-preserved c =
     let metric = c.args.metric in (
       search rules,
       sym (turn (fetched_from metric words) (fetched_from metric words) c.loop-k.k c.args.held
-          (λ n. fetched-open metric words c.loop-k.k n (sym c.length_of-lasting.ensures ∙ c.in_default.is)) c.loop-k-test.true)
+          (λ n. fetched-open metric words c.loop-k.k n (sym c.length_of.ensures ∙ c.in_default.is)) c.loop-k-test.true)
           ∙ c.loop-k.invariant.1,
     )
 

@@ -5,6 +5,3 @@ use Rattle.marks.proofs.fetch_from.Given as goal
 
 abbrev pub invariant-loop-k : goal.invariant-loop-k
 invariant-loop-k l = (l.k ≤ l.held) × (fetched_from l.metric l.words l.k (l.held - l.k) ≡ fetched_from l.metric l.words 0 l.held)
-
-abbrev pub decreases-loop-k : goal.decreases-loop-k
-decreases-loop-k l = l.held - l.k

@@ -5,6 +5,3 @@ use Rattle.marks.proofs.fit_from.Given as goal
 
 abbrev pub invariant-loop-k : goal.invariant-loop-k
 invariant-loop-k l = (l.k ≤ l.held) × (fit_from l.words l.k (l.held - l.k) ≡ fit_from l.words 0 l.held)
-
-abbrev pub decreases-loop-k : goal.decreases-loop-k
-decreases-loop-k l = l.held - l.k

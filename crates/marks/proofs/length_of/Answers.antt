@@ -3,16 +3,15 @@ use Rattle.std.proofs.Common.{sym, ◌∙◌}
 use Rattle.marks.specs.Sweeps.{lasting_at}
 use Rattle.marks.proofs.length_of.Goals as goal
 
-pub returns-in_default : goal.returns-in_default
+pub returns-in_err-start : goal.returns-in_err-start
 unfolding lasting_at
-returns-in_default c = rw (sym c.time_of_bits-started.ensures ∙ c.in_default.is)
+returns-in_err-start c = c.from_residual.ensures ∙ sym (rw (sym c.time_of_bits.ensures ∙ c.in_err-start.was))
 
-pub returns-in_default-stopped : goal.returns-in_default-stopped
+pub returns-in_err-stop : goal.returns-in_err-stop
 unfolding lasting_at
-returns-in_default-stopped c =
-    rw (sym c.time_of_bits-started.ensures ∙ c.in-Some.is, sym c.time_of_bits-stopped.ensures ∙ c.in_default-stopped.is)
+returns-in_err-stop c =
+    c.from_residual-in_err-stop.ensures ∙ sym (rw (sym c.time_of_bits.ensures ∙ c.in_ok-start.was, sym c.time_of_bits-2.ensures ∙ c.in_err-stop.was))
 
 pub returns : goal.returns
 unfolding lasting_at
-returns c =
-    rw (sym c.time_of_bits-started.ensures ∙ c.in-Some.is, sym c.time_of_bits-stopped.ensures ∙ c.in-Some-stopped.is)
+returns c = sym (rw (sym c.time_of_bits.ensures ∙ c.in_ok-start.was, sym c.time_of_bits-2.ensures ∙ c.in_ok-stop.was))

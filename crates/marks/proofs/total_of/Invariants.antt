@@ -7,6 +7,3 @@ use Rattle.marks.proofs.total_of.Given as goal
 abbrev pub invariant-loop-k : goal.invariant-loop-k
 invariant-loop-k l =
     (l.k ≤ l.held) × (l.total.count ≤ l.k) × (total_from l.words l.total l.k (l.held - l.k) ≡ total_from l.words no_total 0 l.held) × T (fits binary64 l.total.sum)
-
-abbrev pub decreases-loop-k : goal.decreases-loop-k
-decreases-loop-k l = l.held - l.k
