@@ -85,20 +85,19 @@ fn batcher_phase(phase: u64) -> BatcherPhase
     BatcherPhase::Passive
 }
 
-// A row's status, by its kind, from the changing part. Each row of a table that passed has a kind.
+// A row's status, by its kind, from the changing part.
 fn status_in(state: &[u64], mem: &[u64], row: usize) -> Status
     requires { Inside state.now × Ready (table_in state.now) mem.now × (row < length (table_in state.now).rows) }
     ensures { result ≡ status_told (Calls.status_of (state_at (states_in (table_in state.now) mem.now) row)) }
 {
     match lookup::kind_of(state, row) {
-        Some(Kind::Processor(_)) => Status::Processor(processor_phase(memory::phase_at(mem, row))),
-        Some(Kind::Batcher(_)) => Status::Batcher(batcher_phase(memory::phase_at(mem, row))),
-        Some(Kind::Stopwatch(_)) => {
+        Kind::Processor(_) => Status::Processor(processor_phase(memory::phase_at(mem, row))),
+        Kind::Batcher(_) => Status::Batcher(batcher_phase(memory::phase_at(mem, row))),
+        Kind::Stopwatch(_) => {
             let begin = memory::begin_at(mem, row);
             mean_of(&mem[begin..begin + 192], memory::held_at(mem, row))
         }
-        Some(Kind::Coupled) => Status::Parked(memory::held_at(mem, row)),
-        None => Status::NoMean,
+        Kind::Coupled => Status::Parked(memory::held_at(mem, row)),
     }
 }
 

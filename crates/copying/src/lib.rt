@@ -35,15 +35,14 @@ pub fn lay_down(rows: &mut [u64], mem: &[u64], active: usize, count: usize)
     copy(rows, mem, active, count * 6);
 }
 
-// How many words of its own a row has. Each row of a table that passed has a kind.
+// How many words of its own a row has.
 fn width_of(state: &[u64], row: usize) -> usize
     requires { Inside state.now × (row < length (table_in state.now).rows) }
     ensures { result ≡ width_of (kind_at (table_in state.now) row) }
 {
     match lookup::kind_of(state, row) {
-        Some(Kind::Processor(_) | Kind::Batcher(_) | Kind::Coupled) => 64,
-        Some(Kind::Stopwatch(_)) => 192,
-        None => 0,
+        Kind::Processor(_) | Kind::Batcher(_) | Kind::Coupled => 64,
+        Kind::Stopwatch(_) => 192,
     }
 }
 

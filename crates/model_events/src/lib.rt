@@ -71,14 +71,14 @@ fn atom_external(
     ensures frame { Frame (table_in state.now) 0 0 mem.old mem.new }
 {
     match lookup::kind_of(state, row) {
-        Some(Kind::Processor(model)) => {
+        Kind::Processor(model) => {
             queue_rows::processor_external(mem, services, row, model, port, content)
         }
-        Some(Kind::Batcher(model)) => queue_rows::batcher_external(mem, row, model, content),
-        Some(Kind::Stopwatch(model)) => {
+        Kind::Batcher(model) => queue_rows::batcher_external(mem, row, model, content),
+        Kind::Stopwatch(model) => {
             watch_rows::stopwatch_external(mem, row, model, clock, port, content)
         }
-        Some(Kind::Coupled) | None => Err(Refusal::BadState),
+        Kind::Coupled => Err(Refusal::BadState),
     }
 }
 

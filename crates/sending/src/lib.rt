@@ -13,7 +13,7 @@ ghost use Rattle.views.specs.World.{end_of};
 ghost use Rattle.views.specs.Messages.{messages_in, Sent};
 
 use rules::Refusal;
-use selection::{Link, Target};
+use selection::Target;
 
 // A message's six words. The time goes by its bits.
 fn write_message(
@@ -58,12 +58,12 @@ fn send_one(
     let mut looked = 0;
     while looked < end {
         match lookup::next_connector(state, &mut looked, id, port) {
-            Link::Nothing => return Ok(sent),
-            Link::At(_, target) => {
+            None => return Ok(sent),
+            Some(link) => {
                 if sent == 256 {
                     return Err(Refusal::NoMessageRoom);
                 }
-                write_message(mem, active + sent * 6, id, port, target, time, content);
+                write_message(mem, active + sent * 6, id, port, link.target, time, content);
                 sent += 1;
             }
         }

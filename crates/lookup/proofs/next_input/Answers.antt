@@ -6,4 +6,4 @@ use Rattle.lookup.proofs.next_input.Goals as goal
 pub returns : goal.returns
 returns c =
     let a = c.args in
-    rw c.next_input.ensures (coupling-search a.state.now c.requires (λ words. is_input words a.owner a.port) a.from)
+    rw (c.next_input.ensures, c.couplings_in.ensures) (coupling-search a.state.now c.requires (λ words. is_input words a.owner a.port) a.from)

@@ -6,4 +6,4 @@ use Rattle.lookup.proofs.next_internal.Goals as goal
 pub returns : goal.returns
 returns c =
     let a = c.args in
-    rw c.next_internal.ensures (coupling-search a.state.now c.requires (λ words. is_internal words a.owner a.source a.port) a.from)
+    rw (c.next_internal.ensures, c.couplings_in.ensures) (coupling-search a.state.now c.requires (λ words. is_internal words a.owner a.source a.port) a.from)

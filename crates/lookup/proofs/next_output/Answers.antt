@@ -6,4 +6,4 @@ use Rattle.lookup.proofs.next_output.Goals as goal
 pub returns : goal.returns
 returns c =
     let a = c.args in
-    rw c.next_output.ensures (coupling-search a.state.now c.requires (λ words. is_output words a.owner a.source a.port) a.from)
+    rw (c.next_output.ensures, c.couplings_in.ensures) (coupling-search a.state.now c.requires (λ words. is_output words a.owner a.source a.port) a.from)

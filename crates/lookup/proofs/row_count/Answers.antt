@@ -1,7 +1,0 @@
--- `lookup::row_count` meets its contract. The rows are as many as word 0 says. Assumes nothing.
-use mathlib.Core.Path.{sym}
-use Rattle.lookup.specs.InsideLaws.{counts}
-use Rattle.lookup.proofs.row_count.Goals as goal
-
-pub returns : goal.returns
-returns c = let s = c.args.state.now in sym (counts s c.requires).0
