@@ -1,19 +1,17 @@
 -- What a file leaves of the lent words: each page keeps its length, the rows that are counted fit, and all beyond them is as it was. Assumes nothing.
-use Rattle.std.specs.Prelude.{ℕ, ◌+◌, ◌*◌, ◌-◌, ◌≤◌, ◌≡◌, refl, Bool, true, false, List, [], ◌∷◌, ◌++◌, length, take, drop}
+use Rattle.std.specs.Prelude.{ℕ, ◌+◌, ◌*◌, ◌-◌, ◌≤◌, ◌≡◌, refl, Bool, true, false, List, [], ◌∷◌, ◌++◌, length, take, drop, Option, Some, None, Result, Ok, Err}
 use Rattle.std.proofs.Common.{sym, ap, ◌∙◌, arith, mul-le-mul_right, suc-mul, add-one, ltb-true, length-append, length-take-le, take-take, drop-drop}
 use Rattle.std.proofs.lemmas.List.{take-append-le}
 use Rattle.std.proofs.lemmas.List.Edits.{length-paste, drop-paste}
 use Rattle.bench_words.specs.Splitting.{lines_of}
-use Rattle.bench_lines.specs.declared.Fault.{Fault}
-use Rattle.bench_lines.specs.declared.Fault.TheVariants.{Fine, Wrong}
-use Rattle.bench_lines.specs.declared.Said.{Said}
+use Rattle.bench_lines.specs.declared.Item.{Item}
+use Rattle.bench_lines.specs.declared.Expected.{Expected}
 use Rattle.bench_lines.specs.Reading.{read_line}
 use Rattle.bench_lines.specs.LineLaws.{cells-ten}
 use Rattle.bench_file.specs.declared.Counts.{Counts}
-use Rattle.bench_file.specs.declared.Reading.TheVariants as Reading
 use Rattle.bench_file.specs.declared.Page.{Page}
 use Rattle.bench_file.specs.declared.Page.TheVariants.{Models, Connectors, Couplings, Services, Actions, Flag}
-use Rattle.bench_file.specs.Filing.{Pages, page_of, has_room, put_row, placed, file_in, file_said, Ending, after, read_from, no_rows, body_of, read_file}
+use Rattle.bench_file.specs.Filing.{Pages, page_of, has_room, put_row, counts_of, placed, file_in, file_said, Ending, after, read_from, no_rows, body_of, read_file}
 use Rattle.bench_file.specs.FilingLaws.{row_room}
 
 -- ---- one page, from n rows to m
@@ -91,23 +89,23 @@ module _ (n : Counts) (p : Pages) (fit : Fit n p) where
   filled_none = record { models = added_none 10 n.models p.models fit.models; connectors = added_none 4 n.connectors p.connectors fit.connectors; couplings = added_none 6 n.couplings p.couplings fit.couplings; services = added_none 1 n.services p.services fit.services; actions = added_none 7 n.actions p.actions fit.actions }
 
   module _ (cells : List ℕ) (ten : length cells ≡ 10) where
-    models-in : (t : Bool) → has_room 10 n.models p.models ≡ t → Filled n (placed t Models n).counts p (file_in Models cells n p).pages
+    models-in : (t : Bool) → has_room 10 n.models p.models ≡ t → Filled n (counts_of n (placed t Models n)) p (file_in Models cells n p).pages
     models-in true h = record { models = added-row 10 n.models p.models cells h (omega (arith, ten)); connectors = added_none 4 n.connectors p.connectors fit.connectors; couplings = added_none 6 n.couplings p.couplings fit.couplings; services = added_none 1 n.services p.services fit.services; actions = added_none 7 n.actions p.actions fit.actions }
     models-in false h = rw h filled_none
 
-    connectors-in : (t : Bool) → has_room 4 n.connectors p.connectors ≡ t → Filled n (placed t Connectors n).counts p (file_in Connectors cells n p).pages
+    connectors-in : (t : Bool) → has_room 4 n.connectors p.connectors ≡ t → Filled n (counts_of n (placed t Connectors n)) p (file_in Connectors cells n p).pages
     connectors-in true h = record { models = added_none 10 n.models p.models fit.models; connectors = added-row 4 n.connectors p.connectors cells h (omega (arith, ten)); couplings = added_none 6 n.couplings p.couplings fit.couplings; services = added_none 1 n.services p.services fit.services; actions = added_none 7 n.actions p.actions fit.actions }
     connectors-in false h = rw h filled_none
 
-    couplings-in : (t : Bool) → has_room 6 n.couplings p.couplings ≡ t → Filled n (placed t Couplings n).counts p (file_in Couplings cells n p).pages
+    couplings-in : (t : Bool) → has_room 6 n.couplings p.couplings ≡ t → Filled n (counts_of n (placed t Couplings n)) p (file_in Couplings cells n p).pages
     couplings-in true h = record { models = added_none 10 n.models p.models fit.models; connectors = added_none 4 n.connectors p.connectors fit.connectors; couplings = added-row 6 n.couplings p.couplings cells h (omega (arith, ten)); services = added_none 1 n.services p.services fit.services; actions = added_none 7 n.actions p.actions fit.actions }
     couplings-in false h = rw h filled_none
 
-    services-in : (t : Bool) → has_room 1 n.services p.services ≡ t → Filled n (placed t Services n).counts p (file_in Services cells n p).pages
+    services-in : (t : Bool) → has_room 1 n.services p.services ≡ t → Filled n (counts_of n (placed t Services n)) p (file_in Services cells n p).pages
     services-in true h = record { models = added_none 10 n.models p.models fit.models; connectors = added_none 4 n.connectors p.connectors fit.connectors; couplings = added_none 6 n.couplings p.couplings fit.couplings; services = added-row 1 n.services p.services cells h (omega (arith, ten)); actions = added_none 7 n.actions p.actions fit.actions }
     services-in false h = rw h filled_none
 
-    actions-in : (t : Bool) → has_room 7 n.actions p.actions ≡ t → Filled n (placed t Actions n).counts p (file_in Actions cells n p).pages
+    actions-in : (t : Bool) → has_room 7 n.actions p.actions ≡ t → Filled n (counts_of n (placed t Actions n)) p (file_in Actions cells n p).pages
     actions-in true h = record { models = added_none 10 n.models p.models fit.models; connectors = added_none 4 n.connectors p.connectors fit.connectors; couplings = added_none 6 n.couplings p.couplings fit.couplings; services = added_none 1 n.services p.services fit.services; actions = added-row 7 n.actions p.actions cells h (omega (arith, ten)) }
     actions-in false h = rw h filled_none
 
@@ -119,24 +117,24 @@ module _ (n : Counts) (p : Pages) (fit : Fit n p) where
     page-in Actions = actions-in (has_room 7 n.actions p.actions) refl
     page-in Flag = record { models = added_none 10 n.models p.models fit.models; connectors = added_none 4 n.connectors p.connectors fit.connectors; couplings = added_none 6 n.couplings p.couplings fit.couplings; services = added_none 1 n.services p.services fit.services; actions = added_none 7 n.actions p.actions fit.actions }
 
-    pub said_in : (said : Said) → Filled n (file_said said cells n p).counts p (file_said said cells n p).pages
-    said_in Said.Nothing = filled_none
-    said_in (Said.Row item) = page-in (page_of item)
-    said_in (Said.Wrong e) = filled_none
+    pub said_in : (said : Result (Option Item) Expected) → Filled n (file_said said cells n p).counts p (file_said said cells n p).pages
+    said_in (Ok None) = filled_none
+    said_in (Ok (Some item)) = page-in (page_of item)
+    said_in (Err e) = filled_none
 
 -- ---- the file
 -- what an ending leaves: rows are added, and those that it counts are these
 pub record Left (n : Counts) (p : Pages) (e : Ending) : Type 0 where
   pub counts : Counts
   pub filled : Filled n counts p e.pages
-  pub told : (m : Counts) → e.reading ≡ Reading.Read m → counts ≡ m
+  pub told : (m : Counts) → e.reading ≡ Ok m → counts ≡ m
 
-after-left : (n : Counts) (p : Pages) (line column : ℕ) (fault : Fault) (m : Counts) (q : Pages) (next : Counts → Pages → Ending)
+after-left : (n : Counts) (p : Pages) (line column : ℕ) (fault : Option Expected) (m : Counts) (q : Pages) (next : Counts → Pages → Ending)
     → Filled n m p q → (Fit m q → Left m q (next m q)) → Left n p (after line column fault m q next)
-after-left n p line column Fine m q next f go =
+after-left n p line column None m q next f go =
     let rest = go (fit_of f) in
     record { counts = rest.counts; filled = filled-then f rest.filled; told = rest.told }
-after-left n p line column (Wrong e) m q next f go = record { counts = m; filled = f; told = λ k h. cc }
+after-left n p line column (Some e) m q next f go = record { counts = m; filled = f; told = λ k h. cc }
 
 pub from-left : (lines : List (List ℕ)) (k : ℕ) (n : Counts) (p : Pages) → Fit n p → Left n p (read_from lines k n p)
 from-left [] k n p fit = record { counts = n; filled = filled_none n p fit; told = λ m h. cc }

@@ -1,20 +1,17 @@
 -- How the lines of a file become rows of lent words, and what the answer is. Definitions only. Assumes nothing.
-use Rattle.std.specs.Prelude.{ℕ, ◌+◌, ◌*◌, ◌-◌, ◌/◌, Bool, true, false, ◌&&◌, List, [], ◌∷◌, length, get_or, drop, leb, ltb, eqb, if◌then◌else◌}
+use Rattle.std.specs.Prelude.{ℕ, ◌+◌, ◌*◌, ◌-◌, ◌/◌, Bool, true, false, ◌&&◌, List, [], ◌∷◌, length, get_or, drop, leb, ltb, eqb, Option, Some, None, Result, Ok, Err, if◌then◌else◌}
 use Rattle.std.proofs.Math.Seq.{paste}
 use Rattle.rules.specs.Base.{hold}
 use Rattle.bench_words.specs.Splitting.{lines_of}
 use Rattle.bench_lines.specs.declared.Item.{Item}
 use Rattle.bench_lines.specs.declared.Item.TheVariants.{Processor, Batcher, Stopwatch, Coupled, Connector, Input, Output, Internal, Service, InjectInput, StepN, StepUntil, StepUntilIdle, Rows}
 use Rattle.bench_lines.specs.declared.Wanted.TheVariants.{NoMore}
-use Rattle.bench_lines.specs.declared.Fault.{Fault}
-use Rattle.bench_lines.specs.declared.Fault.TheVariants.{Fine, Wrong}
-use Rattle.bench_lines.specs.declared.Said.{Said}
+use Rattle.bench_lines.specs.declared.Expected.{Expected}
 use Rattle.bench_lines.specs.Reading.{only, read_line}
 use Rattle.bench_file.specs.declared.Counts.{Counts}
-use Rattle.bench_file.specs.declared.Reading.{Reading}
+use Rattle.bench_file.specs.declared.Misread.{Misread}
 use Rattle.bench_file.specs.declared.Page.{Page}
 use Rattle.bench_file.specs.declared.Page.TheVariants.{Models, Connectors, Couplings, Services, Actions, Flag}
-use Rattle.bench_file.specs.declared.Filed.{Filed}
 
 -- ---- pages
 -- the words of the five lent slices
@@ -57,11 +54,20 @@ put_row width row cells words = if has_room width row words then paste words (ro
 
 pub record Filing : Type 0 where
   pub counts : Counts
-  pub fault : Fault
+  pub fault : Option Expected
   pub pages : Pages
 
-abbrev pub filing : Filed → Pages → Filing
-filing f pages = record { counts = f.counts; fault = f.fault; pages = pages }
+-- the counts after a row, and what was expected in its place; where there is no room for it, they are those before it
+abbrev pub counts_of : Counts → Result Counts Expected → Counts
+counts_of n (Ok m) = m
+counts_of n (Err e) = n
+
+abbrev pub fault_of : Result Counts Expected → Option Expected
+fault_of (Ok m) = None
+fault_of (Err e) = Some e
+
+abbrev pub filing : Counts → Result Counts Expected → Pages → Filing
+filing n r pages = record { counts = counts_of n r; fault = fault_of r; pages = pages }
 
 abbrev pub one_more : Page → Counts → Counts
 one_more Models n = record { models = n.models + 1; connectors = n.connectors; couplings = n.couplings; services = n.services; actions = n.actions; rows = n.rows }
@@ -79,50 +85,50 @@ count_of Services n = n.services
 count_of Actions n = n.actions
 count_of Flag n = 0
 
-abbrev pub filed_fine : Counts → Filed
-filed_fine n = record { counts = n; fault = Fine }
-
 -- a row that has room is counted; one that has none was not expected
-abbrev pub placed : Bool → Page → Counts → Filed
-placed true page n = filed_fine (one_more page n)
-placed false page n = record { counts = n; fault = Wrong (only NoMore) }
+abbrev pub placed : Bool → Page → Counts → Result Counts Expected
+placed true page n = Ok (one_more page n)
+placed false page n = Err (only NoMore)
 
 -- the row goes after the others of its page
 abbrev pub file_in : Page → List ℕ → Counts → Pages → Filing
 file_in Models cells n p =
-    filing (placed (has_room 10 n.models p.models) Models n) (pages_at (put_row 10 n.models cells p.models) p.connectors p.couplings p.services p.actions)
+    filing n (placed (has_room 10 n.models p.models) Models n) (pages_at (put_row 10 n.models cells p.models) p.connectors p.couplings p.services p.actions)
 file_in Connectors cells n p =
-    filing (placed (has_room 4 n.connectors p.connectors) Connectors n) (pages_at p.models (put_row 4 n.connectors cells p.connectors) p.couplings p.services p.actions)
+    filing n (placed (has_room 4 n.connectors p.connectors) Connectors n) (pages_at p.models (put_row 4 n.connectors cells p.connectors) p.couplings p.services p.actions)
 file_in Couplings cells n p =
-    filing (placed (has_room 6 n.couplings p.couplings) Couplings n) (pages_at p.models p.connectors (put_row 6 n.couplings cells p.couplings) p.services p.actions)
+    filing n (placed (has_room 6 n.couplings p.couplings) Couplings n) (pages_at p.models p.connectors (put_row 6 n.couplings cells p.couplings) p.services p.actions)
 file_in Services cells n p =
-    filing (placed (has_room 1 n.services p.services) Services n) (pages_at p.models p.connectors p.couplings (put_row 1 n.services cells p.services) p.actions)
+    filing n (placed (has_room 1 n.services p.services) Services n) (pages_at p.models p.connectors p.couplings (put_row 1 n.services cells p.services) p.actions)
 file_in Actions cells n p =
-    filing (placed (has_room 7 n.actions p.actions) Actions n) (pages_at p.models p.connectors p.couplings p.services (put_row 7 n.actions cells p.actions))
-file_in Flag cells n p = filing (placed true Flag n) p
+    filing n (placed (has_room 7 n.actions p.actions) Actions n) (pages_at p.models p.connectors p.couplings p.services (put_row 7 n.actions cells p.actions))
+file_in Flag cells n p = filing n (placed true Flag n) p
 
 -- what a line says, filed
-abbrev pub file_said : Said → List ℕ → Counts → Pages → Filing
-file_said Said.Nothing cells n p = record { counts = n; fault = Fine; pages = p }
-file_said (Said.Row item) cells n p = file_in (page_of item) cells n p
-file_said (Said.Wrong e) cells n p = record { counts = n; fault = Wrong e; pages = p }
+abbrev pub file_said : Result (Option Item) Expected → List ℕ → Counts → Pages → Filing
+file_said (Ok None) cells n p = record { counts = n; fault = None; pages = p }
+file_said (Ok (Some item)) cells n p = file_in (page_of item) cells n p
+file_said (Err e) cells n p = record { counts = n; fault = Some e; pages = p }
 
 -- ---- the file
 pub record Ending : Type 0 where
-  pub reading : Reading
+  pub reading : Result Counts Misread
   pub pages : Pages
 
-abbrev pub ending : Reading → Pages → Ending
+abbrev pub ending : Result Counts Misread → Pages → Ending
 ending r pages = record { reading = r; pages = pages }
 
+abbrev pub wrong_line : ℕ → ℕ → Expected → Misread
+wrong_line line column e = record { line = line; column = column; expected = e }
+
 -- after a line, the first is 1: the next, or the answer that it is wrong, and at which column
-abbrev pub after : ℕ → ℕ → Fault → Counts → Pages → (Counts → Pages → Ending) → Ending
-after line column Fine n p next = next n p
-after line column (Wrong e) n p next = ending (Reading.Wrong line column e) p
+abbrev pub after : ℕ → ℕ → Option Expected → Counts → Pages → (Counts → Pages → Ending) → Ending
+after line column None n p next = next n p
+after line column (Some e) n p next = ending (Err (wrong_line line column e)) p
 
 -- the lines after the first k
 abbrev pub read_from : List (List ℕ) → ℕ → Counts → Pages → Ending
-read_from [] k n p = ending (Reading.Read n) p
+read_from [] k n p = ending (Ok n) p
 read_from (line ∷ rest) k n p =
     let filed = file_said (read_line line).said (read_line line).cells n p in
     after (k + 1) (read_line line).column filed.fault filed.counts filed.pages (read_from rest (k + 1))
@@ -153,10 +159,10 @@ page_number Flag = 5
 abbrev pub same_page : Page → Page → Bool
 same_page a b = eqb (page_number a) (page_number b)
 
-abbrev pub is_on : Page → Said → Bool
-is_on page Said.Nothing = false
-is_on page (Said.Row item) = same_page page (page_of item)
-is_on page (Said.Wrong e) = false
+abbrev pub is_on : Page → Result (Option Item) Expected → Bool
+is_on page (Ok None) = false
+is_on page (Ok (Some item)) = same_page page (page_of item)
+is_on page (Err e) = false
 
 -- how many rows of the page come before the one that is looked for, after a line that is on it or not
 abbrev pub left_after : Bool → ℕ → ℕ

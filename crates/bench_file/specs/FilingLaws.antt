@@ -1,18 +1,16 @@
 -- The laws of filing: a row that is put, word by word, and the line that comes next. Assumes nothing.
-use Rattle.std.specs.Prelude.{ℕ, suc, ◌+◌, ◌*◌, ◌-◌, ◌/◌, ◌≤◌, ◌<◌, ◌≡◌, refl, Bool, true, false, not, ◌&&◌, List, [], ◌∷◌, leb, ltb, eqb, length, get_or, set, take, drop, if◌then◌else◌}
+use Rattle.std.specs.Prelude.{ℕ, suc, ◌+◌, ◌*◌, ◌-◌, ◌/◌, ◌≤◌, ◌<◌, ◌≡◌, refl, Bool, true, false, not, ◌&&◌, List, [], ◌∷◌, leb, ltb, eqb, length, get_or, set, take, drop, Some, None, Err, if◌then◌else◌}
 use Rattle.std.proofs.Common.{sym, ◌∙◌, arith, div-mul-le_self, mul-le-mul_right, suc-mul, add-one, ltb-true, ltb-false, leb-true, le-leb, length-drop, drop_of_length-le, drop-drop}
 use Rattle.std.proofs.Math.Seq.{paste, paste-suc}
 use Rattle.rules.specs.Base.{hold}
 use Rattle.bench_words.specs.Splitting.{is_newline, line_span, lines_of}
 use Rattle.bench_words.specs.SplittingLaws.{span-inside, lines-some}
 use Rattle.bench_lines.specs.declared.Expected.{Expected}
-use Rattle.bench_lines.specs.declared.Fault.TheVariants.{Fine, Wrong}
 use Rattle.bench_lines.specs.Reading.{read_line}
 use Rattle.bench_file.specs.declared.Counts.{Counts}
-use Rattle.bench_file.specs.declared.Reading.TheVariants as Reading
 use Rattle.bench_file.specs.declared.Page.{Page}
 use Rattle.bench_file.specs.declared.Page.TheVariants.{Models, Connectors, Couplings, Services, Actions, Flag}
-use Rattle.bench_file.specs.Filing.{Pages, Filing, next_line, file_said, ending, read_from, mark_span, body_of, same_page, is_on, left_after, line_in}
+use Rattle.bench_file.specs.Filing.{Pages, Filing, next_line, file_said, ending, wrong_line, read_from, mark_span, body_of, same_page, is_on, left_after, line_in}
 
 -- ---- a row that has room
 -- its words are there
@@ -61,10 +59,10 @@ module _ (text : List ℕ) (at end : ℕ) (e : end ≡ at + line_span (drop at t
 
 -- ---- a line that is filed, and one that is wrong
 module _ (line : List ℕ) (rest : List (List ℕ)) (k : ℕ) (n : Counts) (p : Pages) (filed : Filing) (e : filed ≡ file_said (read_line line).said (read_line line).cells n p) where
-  pub file-goes : filed.fault ≡ Fine → read_from (line ∷ rest) k n p ≡ read_from rest (k + 1) filed.counts filed.pages
+  pub file-goes : filed.fault ≡ None → read_from (line ∷ rest) k n p ≡ read_from rest (k + 1) filed.counts filed.pages
   file-goes h = rw (sym e, h)
 
-  pub file-stops : (x : Expected) → filed.fault ≡ Wrong x → read_from (line ∷ rest) k n p ≡ ending (Reading.Wrong (k + 1) (read_line line).column x) filed.pages
+  pub file-stops : (x : Expected) → filed.fault ≡ Some x → read_from (line ∷ rest) k n p ≡ ending (Err (wrong_line (k + 1) (read_line line).column x)) filed.pages
   file-stops x h = rw (sym e, h)
 
 -- ---- the line of a row

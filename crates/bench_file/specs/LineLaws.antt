@@ -1,21 +1,19 @@
 -- The line of a row is the one that it was read from: it is on the row's page, and its cells are the row. Assumes nothing.
-use Rattle.std.specs.Prelude.{ℕ, suc, ◌+◌, ◌*◌, ◌-◌, ◌≤◌, ◌<◌, ◌≡◌, refl, Bool, true, false, ◌&&◌, List, [], ◌∷◌, eqb, length, get_or, take, drop}
+use Rattle.std.specs.Prelude.{ℕ, suc, ◌+◌, ◌*◌, ◌-◌, ◌≤◌, ◌<◌, ◌≡◌, refl, Bool, true, false, ◌&&◌, List, [], ◌∷◌, eqb, length, get_or, take, drop, Option, Some, None, Result, Ok, Err}
 use Rattle.std.proofs.Common.{sym, ap, subst, ◌∙◌, arith, mul-le-mul_right, suc-mul, length-take-le, take-take, take-add, drop_at, ltb-true, eqb-true}
 use Rattle.std.proofs.lemmas.Bool.{false≢true, eqb-false}
 use Rattle.std.proofs.lemmas.List.Edits.{take-paste, length-paste}
 use Rattle.std.proofs.Math.Seq.{paste}
 use Rattle.bench_words.specs.Splitting.{lines_of}
 use Rattle.bench_lines.specs.declared.Expected.{Expected}
-use Rattle.bench_lines.specs.declared.Fault.{Fault}
-use Rattle.bench_lines.specs.declared.Fault.TheVariants.{Fine, Wrong}
-use Rattle.bench_lines.specs.declared.Said.{Said}
+use Rattle.bench_lines.specs.declared.Item.{Item}
 use Rattle.bench_lines.specs.Reading.{read_line}
 use Rattle.bench_lines.specs.LineLaws.{cells-ten}
 use Rattle.bench_file.specs.declared.Counts.{Counts}
-use Rattle.bench_file.specs.declared.Reading.{Reading}
+use Rattle.bench_file.specs.declared.Misread.{Misread}
 use Rattle.bench_file.specs.declared.Page.{Page}
 use Rattle.bench_file.specs.declared.Page.TheVariants.{Models, Connectors, Couplings, Services, Actions, Flag}
-use Rattle.bench_file.specs.Filing.{Pages, Filing, page_of, has_room, put_row, count_of, placed, file_in, file_said, after, read_from, no_rows, body_of, read_file, same_page, is_on, left_after, line_in, line_of}
+use Rattle.bench_file.specs.Filing.{Pages, Filing, page_of, has_room, put_row, count_of, counts_of, fault_of, placed, file_in, file_said, wrong_line, after, read_from, no_rows, body_of, read_file, same_page, is_on, left_after, line_in, line_of}
 use Rattle.bench_file.specs.FilingLaws.{row_room, row_here, row-later, page-is}
 use Rattle.bench_file.specs.FileLaws.{Added, Filled, Fit, fit_of, said_in, from-left, none-fit}
 
@@ -79,13 +77,13 @@ page-stays Actions f row h = row_stays f.actions row h
 page-stays Flag f row h = absurd (omega (arith, h))
 
 -- ---- what cannot be
-abbrev is_fine : Fault → Bool
-is_fine Fine = true
-is_fine (Wrong e) = false
+abbrev is_fine : Option Expected → Bool
+is_fine None = true
+is_fine (Some e) = false
 
-abbrev is_read : Reading → Bool
-is_read (Reading.Read n) = true
-is_read (Reading.Wrong line column e) = false
+abbrev is_read : Result Counts Misread → Bool
+is_read (Ok n) = true
+is_read (Err w) = false
 
 module _ {A : Type 0} where
   no_true : ◌≡◌ {A = Bool} false true → A
@@ -94,10 +92,10 @@ module _ {A : Type 0} where
   no_false : ◌≡◌ {A = Bool} true false → A
   no_false h = elim (false≢true (sym h)) [ ]
 
-  no-fault : (e : Expected) → Wrong e ≡ Fine → A
+  no-fault : (e : Expected) → Some e ≡ None → A
   no-fault e h = no_true (ap is_fine h)
 
-  no-wrong : (line column : ℕ) (e : Expected) (m : Counts) → Reading.Wrong line column e ≡ Reading.Read m → A
+  no-wrong : (line column : ℕ) (e : Expected) (m : Counts) → Err (wrong_line line column e) ≡ Ok m → A
   no-wrong line column e m h = no_true (ap is_read h)
 
 -- ---- what a line does to a page: a row more, or nothing
@@ -105,7 +103,7 @@ data Moved (page : Page) (on : Bool) (cells : List ℕ) (n m : Counts) (q : Page
   more : on ≡ true → count_of page m ≡ count_of page n + 1 → row_on page (count_of page n) q ≡ take (width_of page) cells → Moved page on cells n m q
   none : on ≡ false → count_of page m ≡ count_of page n → Moved page on cells n m q
 
-other-count : (n : Counts) (t : Bool) (page other : Page) → same_page page other ≡ false → count_of page (placed t other n).counts ≡ count_of page n
+other-count : (n : Counts) (t : Bool) (page other : Page) → same_page page other ≡ false → count_of page (counts_of n (placed t other n)) ≡ count_of page n
 other-count n false page other h = refl
 other-count n true Models Models h = cc
 other-count n true Models Connectors h = refl
@@ -148,27 +146,27 @@ module _ (n : Counts) (p : Pages) (cells : List ℕ) (ten : length cells ≡ 10)
   put-row : (width row : ℕ) (words : List ℕ) → has_room width row words ≡ true → width ≤ 10 → take width (drop (row * width) (put_row width row cells words)) ≡ take width cells
   put-row width row words h wide = rw h (pasted words cells (row * width) width (row_room (length words) width row (ltb-true _ _ h)) (omega (arith, ten, wide)))
 
-  models-moved : (t : Bool) → has_room 10 n.models p.models ≡ t → (placed t Models n).fault ≡ Fine → Moved Models true cells n (placed t Models n).counts (file_in Models cells n p).pages
+  models-moved : (t : Bool) → has_room 10 n.models p.models ≡ t → fault_of (placed t Models n) ≡ None → Moved Models true cells n (counts_of n (placed t Models n)) (file_in Models cells n p).pages
   models-moved true h e = more refl refl (put-row 10 n.models p.models h (omega arith))
   models-moved false h e = no-fault _ e
 
-  connectors-moved : (t : Bool) → has_room 4 n.connectors p.connectors ≡ t → (placed t Connectors n).fault ≡ Fine → Moved Connectors true cells n (placed t Connectors n).counts (file_in Connectors cells n p).pages
+  connectors-moved : (t : Bool) → has_room 4 n.connectors p.connectors ≡ t → fault_of (placed t Connectors n) ≡ None → Moved Connectors true cells n (counts_of n (placed t Connectors n)) (file_in Connectors cells n p).pages
   connectors-moved true h e = more refl refl (put-row 4 n.connectors p.connectors h (omega arith))
   connectors-moved false h e = no-fault _ e
 
-  couplings-moved : (t : Bool) → has_room 6 n.couplings p.couplings ≡ t → (placed t Couplings n).fault ≡ Fine → Moved Couplings true cells n (placed t Couplings n).counts (file_in Couplings cells n p).pages
+  couplings-moved : (t : Bool) → has_room 6 n.couplings p.couplings ≡ t → fault_of (placed t Couplings n) ≡ None → Moved Couplings true cells n (counts_of n (placed t Couplings n)) (file_in Couplings cells n p).pages
   couplings-moved true h e = more refl refl (put-row 6 n.couplings p.couplings h (omega arith))
   couplings-moved false h e = no-fault _ e
 
-  services-moved : (t : Bool) → has_room 1 n.services p.services ≡ t → (placed t Services n).fault ≡ Fine → Moved Services true cells n (placed t Services n).counts (file_in Services cells n p).pages
+  services-moved : (t : Bool) → has_room 1 n.services p.services ≡ t → fault_of (placed t Services n) ≡ None → Moved Services true cells n (counts_of n (placed t Services n)) (file_in Services cells n p).pages
   services-moved true h e = more refl refl (put-row 1 n.services p.services h (omega arith))
   services-moved false h e = no-fault _ e
 
-  actions-moved : (t : Bool) → has_room 7 n.actions p.actions ≡ t → (placed t Actions n).fault ≡ Fine → Moved Actions true cells n (placed t Actions n).counts (file_in Actions cells n p).pages
+  actions-moved : (t : Bool) → has_room 7 n.actions p.actions ≡ t → fault_of (placed t Actions n) ≡ None → Moved Actions true cells n (counts_of n (placed t Actions n)) (file_in Actions cells n p).pages
   actions-moved true h e = more refl refl (put-row 7 n.actions p.actions h (omega arith))
   actions-moved false h e = no-fault _ e
 
-  own-page : (page : Page) → 0 < width_of page → (file_in page cells n p).fault ≡ Fine → Moved page true cells n (file_in page cells n p).counts (file_in page cells n p).pages
+  own-page : (page : Page) → 0 < width_of page → (file_in page cells n p).fault ≡ None → Moved page true cells n (file_in page cells n p).counts (file_in page cells n p).pages
   own-page Models some e = models-moved (has_room 10 n.models p.models) refl e
   own-page Connectors some e = connectors-moved (has_room 4 n.connectors p.connectors) refl e
   own-page Couplings some e = couplings-moved (has_room 6 n.couplings p.couplings) refl e
@@ -184,15 +182,15 @@ module _ (n : Counts) (p : Pages) (cells : List ℕ) (ten : length cells ≡ 10)
   other-page page Actions h = other-count n (has_room 7 n.actions p.actions) page Actions h
   other-page page Flag h = other-count n true page Flag h
 
-  in-page : (page other : Page) (t : Bool) → same_page page other ≡ t → 0 < width_of page → (file_in other cells n p).fault ≡ Fine → Moved page t cells n (file_in other cells n p).counts (file_in other cells n p).pages
+  in-page : (page other : Page) (t : Bool) → same_page page other ≡ t → 0 < width_of page → (file_in other cells n p).fault ≡ None → Moved page t cells n (file_in other cells n p).counts (file_in other cells n p).pages
   in-page page other true h some e =
-      subst (λ (to : Page). (file_in to cells n p).fault ≡ Fine → Moved page true cells n (file_in to cells n p).counts (file_in to cells n p).pages) (page-is page other h) (own-page page some) e
+      subst (λ (to : Page). (file_in to cells n p).fault ≡ None → Moved page true cells n (file_in to cells n p).counts (file_in to cells n p).pages) (page-is page other h) (own-page page some) e
   in-page page other false h some e = none refl (other-page page other h)
 
-  said-moved : (page : Page) (said : Said) → 0 < width_of page → (file_said said cells n p).fault ≡ Fine → Moved page (is_on page said) cells n (file_said said cells n p).counts (file_said said cells n p).pages
-  said-moved page Said.Nothing some e = none refl refl
-  said-moved page (Said.Row item) some e = in-page page (page_of item) (same_page page (page_of item)) refl some e
-  said-moved page (Said.Wrong x) some e = no-fault x e
+  said-moved : (page : Page) (said : Result (Option Item) Expected) → 0 < width_of page → (file_said said cells n p).fault ≡ None → Moved page (is_on page said) cells n (file_said said cells n p).counts (file_said said cells n p).pages
+  said-moved page (Ok None) some e = none refl refl
+  said-moved page (Ok (Some item)) some e = in-page page (page_of item) (same_page page (page_of item)) refl some e
+  said-moved page (Err x) some e = no-fault x e
 
 -- ---- the file
 -- one line more before it
@@ -202,9 +200,9 @@ later s = record { place = suc s.place; there = omega (arith, s.there); counted 
 module _ (page : Page) (some : 0 < width_of page) (row : ℕ) (m : Counts) (before : row < count_of page m) where
   -- what from-stands says of the lines from here on
   abbrev From : List (List ℕ) → ℕ → Counts → Pages → Type 0
-  From lines k n p = Fit n p → count_of page n ≤ row → (read_from lines k n p).reading ≡ Reading.Read m → Stands page row lines k (line_in page lines k (row - count_of page n)) (read_from lines k n p).pages
+  From lines k n p = Fit n p → count_of page n ≤ row → (read_from lines k n p).reading ≡ Ok m → Stands page row lines k (line_in page lines k (row - count_of page n)) (read_from lines k n p).pages
 
-  module _ (line : List ℕ) (rest : List (List ℕ)) (k : ℕ) (n c : Counts) (p q : Pages) (filled : Filled n c p q) (below : count_of page n ≤ row) (e : (read_from rest (k + 1) c q).reading ≡ Reading.Read m) where
+  module _ (line : List ℕ) (rest : List (List ℕ)) (k : ℕ) (n c : Counts) (p q : Pages) (filled : Filled n c p q) (below : count_of page n ≤ row) (e : (read_from rest (k + 1) c q).reading ≡ Ok m) where
     -- it is this line's
     here : (on : Bool) → on ≡ is_on page (read_line line).said → on ≡ true → count_of page c ≡ count_of page n + 1 → row_on page (count_of page n) q ≡ take (width_of page) (read_line line).cells → row ≡ count_of page n
         → Stands page row (line ∷ rest) k (line_in page (line ∷ rest) k (row - count_of page n)) (read_from rest (k + 1) c q).pages
@@ -238,15 +236,15 @@ module _ (page : Page) (some : 0 < width_of page) (row : ℕ) (m : Counts) (befo
 
   -- a line is filed, or it is wrong and the file is not read
   filed-stands : (line : List ℕ) (rest : List (List ℕ)) (k : ℕ) (n : Counts) (p : Pages) → Fit n p → count_of page n ≤ row → (filed : Filing) → filed ≡ file_said (read_line line).said (read_line line).cells n p
-      → From rest (k + 1) filed.counts filed.pages → (fault : Fault) → filed.fault ≡ fault → (after (k + 1) (read_line line).column fault filed.counts filed.pages (read_from rest (k + 1))).reading ≡ Reading.Read m
+      → From rest (k + 1) filed.counts filed.pages → (fault : Option Expected) → filed.fault ≡ fault → (after (k + 1) (read_line line).column fault filed.counts filed.pages (read_from rest (k + 1))).reading ≡ Ok m
       → Stands page row (line ∷ rest) k (line_in page (line ∷ rest) k (row - count_of page n)) (after (k + 1) (read_line line).column fault filed.counts filed.pages (read_from rest (k + 1))).pages
-  filed-stands line rest k n p fit below filed is go Fine h e =
+  filed-stands line rest k n p fit below filed is go None h e =
       let cells = (read_line line).cells in
       let said = (read_line line).said in
       let filled = rw (sym is) at (said_in n p fit cells (cells-ten line) said) in
       let moved = rw (sym is) at (said-moved n p cells (cells-ten line) page said some (ap (λ f. f.fault) (sym is) ∙ h)) in
       moves line rest k n filed.counts p filed.pages filled below e moved go
-  filed-stands line rest k n p fit below filed is go (Wrong x) h e = no-wrong (k + 1) (read_line line).column x m e
+  filed-stands line rest k n p fit below filed is go (Some x) h e = no-wrong (k + 1) (read_line line).column x m e
 
   from-stands : (lines : List (List ℕ)) (k : ℕ) (n : Counts) (p : Pages) → From lines k n p
   from-stands [] k n p fit below e =
@@ -257,7 +255,7 @@ module _ (page : Page) (some : 0 < width_of page) (row : ℕ) (m : Counts) (befo
       filed-stands line rest k n p fit below filed refl (from-stands rest (k + 1) filed.counts filed.pages) filed.fault refl e
 
 -- of every file that is read: the line of each row is the one that it was read from
-pub row-stands : (text : List ℕ) (p : Pages) (m : Counts) → (read_file text p).reading ≡ Reading.Read m → (page : Page) (row : ℕ) → row < count_of page m
+pub row-stands : (text : List ℕ) (p : Pages) (m : Counts) → (read_file text p).reading ≡ Ok m → (page : Page) (row : ℕ) → row < count_of page m
     → Stands page row (lines_of (body_of text)) 0 (line_of page row text) (read_file text p).pages
 unfolding read_file line_of
 row-stands text p m e page row h = by page row h

@@ -4,10 +4,10 @@
 #![tactic(auto)]
 
 ghost use Rattle.std.specs.Prelude.{◌≡◌, true, ◌&&◌, ◌/◌, ◌≤◌, ◌<◌, length, ltb, eqb};
-ghost use Rattle.bench_file.specs.Filing.{page_of, put_row, count_of, filed_fine, placed, pages_at, filing, file_in, file_said, next_line, no_rows, ending, mark_span, read_file, page_number, same_page, is_on, left_after, line_of};
+ghost use Rattle.bench_file.specs.Filing.{page_of, put_row, count_of, placed, pages_at, filing, file_in, file_said, next_line, no_rows, ending, mark_span, read_file, is_on, left_after, line_of};
 
 pub use bench_lines::{Expected, Value, Wanted, Word, wanted_text, word_text};
-use bench_lines::{Fault, Item, Line, Said};
+use bench_lines::{Item, Line};
 pub use bench_words::text_length;
 
 // How many rows of each kind there are, and whether `rows` stands in the file.
@@ -21,19 +21,16 @@ pub struct Counts {
     pub rows: bool,
 }
 
-// What a file says. Lines count from 1, and so do the bytes of a line.
+// Which line of a file is wrong, and what was expected there. Lines count from 1, and so do the bytes of a line.
 #[derive(Clone, Copy)]
-pub enum Reading {
-    Read(Counts),
-    Wrong {
-        line: u64,
-        column: usize,
-        expected: Expected,
-    },
+pub struct Misread {
+    pub line: u64,
+    pub column: usize,
+    pub expected: Expected,
 }
 
 // Where an item's row goes; `rows` is a flag, and no row.
-#[derive(Clone, Copy)]
+#[derive(Clone, Copy, PartialEq, Eq)]
 pub enum Page {
     Models,
     Connectors,
@@ -43,29 +40,15 @@ pub enum Page {
     Flag,
 }
 
-#[derive(Clone, Copy)]
-struct Filed {
-    counts: Counts,
-    fault: Fault,
-}
-
 fn page_of(item: Item) -> Page
     ensures { result ≡ page_of item }
 {
     match item {
-        Item::Processor => Page::Models,
-        Item::Batcher => Page::Models,
-        Item::Stopwatch => Page::Models,
-        Item::Coupled => Page::Models,
+        Item::Processor | Item::Batcher | Item::Stopwatch | Item::Coupled => Page::Models,
         Item::Connector => Page::Connectors,
-        Item::Input => Page::Couplings,
-        Item::Output => Page::Couplings,
-        Item::Internal => Page::Couplings,
+        Item::Input | Item::Output | Item::Internal => Page::Couplings,
         Item::Service => Page::Services,
-        Item::InjectInput => Page::Actions,
-        Item::StepN => Page::Actions,
-        Item::StepUntil => Page::Actions,
-        Item::StepUntilIdle => Page::Actions,
+        Item::InjectInput | Item::StepN | Item::StepUntil | Item::StepUntilIdle => Page::Actions,
         Item::Rows => Page::Flag,
     }
 }
@@ -80,61 +63,28 @@ fn put_row(words: &mut [u64], width: usize, row: usize, cells: [u64; 10]) -> boo
         return false;
     }
     let start = row * width;
-    let mut at = 0;
-    while at < width {
-        words[start + at] = cells[at];
-        at += 1;
-    }
+    words[start..start + width].copy_from_slice(&cells[..width]);
     true
 }
 
-fn fine(counts: Counts) -> Filed
-    ensures { result ≡ filed_fine counts }
-{
-    Filed {
-        counts,
-        fault: Fault::Fine,
-    }
-}
-
 // Counts a row that had room; one that had none was not expected.
-fn counted(counts: Counts, page: Page, room: bool) -> Filed
+fn counted(counts: Counts, page: Page, room: bool) -> Result<Counts, Expected>
     requires { room ≡ true → count_of page counts < 18446744073709551615 }
     ensures { result ≡ placed room page counts }
 {
     if !room {
-        return Filed {
-            counts,
-            fault: Fault::Wrong(bench_lines::only(Wanted::NoMore)),
-        };
+        return Err(bench_lines::only(Wanted::NoMore));
     }
     let mut more = counts;
     match page {
-        Page::Models => {
-            more.models += 1;
-            fine(more)
-        }
-        Page::Connectors => {
-            more.connectors += 1;
-            fine(more)
-        }
-        Page::Couplings => {
-            more.couplings += 1;
-            fine(more)
-        }
-        Page::Services => {
-            more.services += 1;
-            fine(more)
-        }
-        Page::Actions => {
-            more.actions += 1;
-            fine(more)
-        }
-        Page::Flag => {
-            more.rows = true;
-            fine(more)
-        }
+        Page::Models => more.models += 1,
+        Page::Connectors => more.connectors += 1,
+        Page::Couplings => more.couplings += 1,
+        Page::Services => more.services += 1,
+        Page::Actions => more.actions += 1,
+        Page::Flag => more.rows = true,
     }
+    Ok(more)
 }
 
 // Puts a row on its page, and counts it.
@@ -147,32 +97,18 @@ fn put_item(
     counts: Counts,
     page: Page,
     cells: [u64; 10],
-) -> Filed
-    ensures { filing result (pages_at models.new connectors.new couplings.new services.new actions.new) ≡ file_in page cells counts (pages_at models.old connectors.old couplings.old services.old actions.old) }
+) -> Result<Counts, Expected>
+    ensures { filing counts result (pages_at models.new connectors.new couplings.new services.new actions.new) ≡ file_in page cells counts (pages_at models.old connectors.old couplings.old services.old actions.old) }
 {
-    match page {
-        Page::Models => {
-            let room = put_row(models, 10, counts.models, cells);
-            counted(counts, page, room)
-        }
-        Page::Connectors => {
-            let room = put_row(connectors, 4, counts.connectors, cells);
-            counted(counts, page, room)
-        }
-        Page::Couplings => {
-            let room = put_row(couplings, 6, counts.couplings, cells);
-            counted(counts, page, room)
-        }
-        Page::Services => {
-            let room = put_row(services, 1, counts.services, cells);
-            counted(counts, page, room)
-        }
-        Page::Actions => {
-            let room = put_row(actions, 7, counts.actions, cells);
-            counted(counts, page, room)
-        }
-        Page::Flag => counted(counts, page, true),
-    }
+    let room = match page {
+        Page::Models => put_row(models, 10, counts.models, cells),
+        Page::Connectors => put_row(connectors, 4, counts.connectors, cells),
+        Page::Couplings => put_row(couplings, 6, counts.couplings, cells),
+        Page::Services => put_row(services, 1, counts.services, cells),
+        Page::Actions => put_row(actions, 7, counts.actions, cells),
+        Page::Flag => true,
+    };
+    counted(counts, page, room)
 }
 
 // Files what a line says.
@@ -184,17 +120,13 @@ fn put_line(
     actions: &mut [u64],
     counts: Counts,
     line: Line,
-) -> Filed
-    ensures { filing result (pages_at models.new connectors.new couplings.new services.new actions.new) ≡ file_said line.said line.cells counts (pages_at models.old connectors.old couplings.old services.old actions.old) }
+) -> Result<Counts, Expected>
+    ensures { filing counts result (pages_at models.new connectors.new couplings.new services.new actions.new) ≡ file_said line.said line.cells counts (pages_at models.old connectors.old couplings.old services.old actions.old) }
 {
-    let said = line.said;
     let cells = line.cells;
-    match said {
-        Said::Nothing => Filed {
-            counts,
-            fault: Fault::Fine,
-        },
-        Said::Row(item) => put_item(
+    match line.said? {
+        None => Ok(counts),
+        Some(item) => put_item(
             models,
             connectors,
             couplings,
@@ -204,10 +136,6 @@ fn put_line(
             page_of(item),
             cells,
         ),
-        Said::Wrong(e) => Filed {
-            counts,
-            fault: Fault::Wrong(e),
-        },
     }
 }
 
@@ -215,10 +143,7 @@ fn put_line(
 fn next_line(text: &[u8], end: usize) -> usize
     ensures { result ≡ next_line (length text.now) end }
 {
-    if end < text.len() {
-        return end + 1;
-    }
-    end
+    if end < text.len() { end + 1 } else { end }
 }
 
 fn no_counts() -> Counts
@@ -234,33 +159,15 @@ fn no_counts() -> Counts
     }
 }
 
-fn wrong(line: u64, column: usize, expected: Expected) -> Reading
-    ensures { result ≡ Reading.Wrong line column expected }
-{
-    Reading::Wrong {
-        line,
-        column,
-        expected,
-    }
-}
-
 // How many bytes the byte order mark takes that may stand at a file's start.
 pub fn mark_length(text: &[u8]) -> usize
     ensures { result ≡ mark_span text.now }
 {
-    if text.len() < 3 {
-        return 0;
+    if text.starts_with(b"\xEF\xBB\xBF") {
+        3
+    } else {
+        0
     }
-    if text[0] != 0xEF {
-        return 0;
-    }
-    if text[1] != 0xBB {
-        return 0;
-    }
-    if text[2] != 0xBF {
-        return 0;
-    }
-    3
 }
 
 // Reads a bench file: how many rows of each kind, or the wrong line, its column and what was expected there. Each slice is lent for the
@@ -273,60 +180,43 @@ pub fn read(
     couplings: &mut [u64],
     services: &mut [u64],
     actions: &mut [u64],
-) -> Reading
+) -> Result<Counts, Misread>
     ensures { ending result (pages_at models.new connectors.new couplings.new services.new actions.new) ≡ read_file text.now (pages_at models.old connectors.old couplings.old services.old actions.old) }
 {
     let mut counts = no_counts();
     let mut lines: u64 = 0;
     let mut at = mark_length(text);
+    // kept: `split` at newlines gives an empty line behind the last one, which `lines_of` does not have
     while at < text.len() {
         let end = bench_words::line_end(text, at);
         let line = bench_lines::read_line(&text[at..end]);
         let column = line.column;
-        let filed = put_line(
-            models, connectors, couplings, services, actions, counts, line,
-        );
         lines += 1;
-        let fault = filed.fault;
-        match fault {
-            Fault::Wrong(e) => return wrong(lines, column, e),
-            Fault::Fine => {
-                let more = filed.counts;
-                counts = more;
-                at = next_line(text, end);
+        match put_line(
+            models, connectors, couplings, services, actions, counts, line,
+        ) {
+            Ok(more) => counts = more,
+            // kept: `map_err(..)?` with a closure over the line and its column did not prove
+            Err(expected) => {
+                return Err(Misread {
+                    line: lines,
+                    column,
+                    expected,
+                });
             }
         }
+        at = next_line(text, end);
     }
-    Reading::Read(counts)
-}
-
-fn page_number(page: Page) -> u64
-    ensures { result ≡ page_number page }
-{
-    match page {
-        Page::Models => 0,
-        Page::Connectors => 1,
-        Page::Couplings => 2,
-        Page::Services => 3,
-        Page::Actions => 4,
-        Page::Flag => 5,
-    }
-}
-
-fn is_same(page: Page, other: Page) -> bool
-    ensures { result ≡ same_page page other }
-{
-    page_number(page) == page_number(other)
+    Ok(counts)
 }
 
 // Whether a line's row goes to the page.
-fn is_on(page: Page, said: Said) -> bool
+fn is_on(page: Page, said: Result<Option<Item>, Expected>) -> bool
     ensures { result ≡ is_on page said }
 {
     match said {
-        Said::Nothing => false,
-        Said::Row(item) => is_same(page, page_of(item)),
-        Said::Wrong(_) => false,
+        Ok(Some(item)) => page == page_of(item),
+        _ => false,
     }
 }
 
@@ -334,38 +224,30 @@ fn is_on(page: Page, said: Said) -> bool
 fn is_it(on: bool, left: usize) -> bool
     ensures { result ≡ on && eqb left 0 }
 {
-    if !on {
-        return false;
-    }
-    left == 0
+    on && left == 0
 }
 
 // How many rows are before it still.
 fn left_after(on: bool, left: usize) -> usize
     ensures { result ≡ left_after on left }
 {
-    if !on {
-        return left;
-    }
-    if left == 0 {
-        return 0;
-    }
-    left - 1
+    if on { left.saturating_sub(1) } else { left }
 }
 
 // The number of the line that a row of a page was read from, rows counted from 0 and lines from 1; 0 where there is no such row.
+// kept: 0 and no None, since the theorems of Filing's `line_of` count so, and who prints a place asks for rows that stand.
 pub fn line_of(text: &[u8], page: Page, row: usize) -> u64
     ensures { result ≡ line_of page row text.now }
 {
     let mut left = row;
     let mut number: u64 = 0;
     let mut at = mark_length(text);
+    // kept: `split` at newlines gives an empty line behind the last one, which `lines_of` does not have
     while at < text.len() {
         let end = bench_words::line_end(text, at);
         let line = bench_lines::read_line(&text[at..end]);
         number += 1;
-        let said = line.said;
-        let on = is_on(page, said);
+        let on = is_on(page, line.said);
         if is_it(on, left) {
             return number;
         }

@@ -5,8 +5,8 @@ use native.Mathlib.Omega.{arith}
 use mathlib.Core.List.{[]}
 use lib.ListN.{length, take, drop, drop_of_length-le}
 use Rattle.bench_words.specs.Splitting.{lines_from, lines_of}
-use Rattle.bench_file.specs.Filing.{pages_at, filing, file_said, next_line, ending, read_from, read_file}
-use Rattle.bench_file.specs.declared.Reading.TheVariants as Reading
+use Rattle.std.specs.Prelude.{Err}
+use Rattle.bench_file.specs.Filing.{pages_at, counts_of, fault_of, filing, file_said, next_line, ending, wrong_line, read_from, read_file}
 use Rattle.bench_file.specs.FilingLaws.{line-within, next-within, next-further, lines_at, file-goes, file-stops, mark-within}
 use borrow.Author.Rules.{rules}
 use Rattle.bench_file.proofs.read.Goals as goal
@@ -27,38 +27,38 @@ overflow_add-lines c =
     let few : l.lines < length c.args.text.now = omega (arith, l.invariant.1, c.loop-at-test.true) in
     omega (arith, few, c.well_formed.0.0)
 
-pub shape_of-models-in-Wrong : goal.shape_of-models-in-Wrong
-shape_of-models-in-Wrong c =
-    c.put_line-filed.auto.models ∙ c.loop-at.invariant.2
+pub shape_of-models-in-Err : goal.shape_of-models-in-Err
+shape_of-models-in-Err c =
+    c.put_line.auto.models ∙ c.loop-at.invariant.2
 
-pub shape_of-connectors-in-Wrong : goal.shape_of-connectors-in-Wrong
-shape_of-connectors-in-Wrong c =
-    c.put_line-filed.auto.connectors ∙ c.loop-at.invariant.3
+pub shape_of-connectors-in-Err : goal.shape_of-connectors-in-Err
+shape_of-connectors-in-Err c =
+    c.put_line.auto.connectors ∙ c.loop-at.invariant.3
 
-pub shape_of-couplings-in-Wrong : goal.shape_of-couplings-in-Wrong
-shape_of-couplings-in-Wrong c =
-    c.put_line-filed.auto.couplings ∙ c.loop-at.invariant.4
+pub shape_of-couplings-in-Err : goal.shape_of-couplings-in-Err
+shape_of-couplings-in-Err c =
+    c.put_line.auto.couplings ∙ c.loop-at.invariant.4
 
-pub shape_of-services-in-Wrong : goal.shape_of-services-in-Wrong
-shape_of-services-in-Wrong c =
-    c.put_line-filed.auto.services ∙ c.loop-at.invariant.5
+pub shape_of-services-in-Err : goal.shape_of-services-in-Err
+shape_of-services-in-Err c =
+    c.put_line.auto.services ∙ c.loop-at.invariant.5
 
-pub shape_of-actions-in-Wrong : goal.shape_of-actions-in-Wrong
-shape_of-actions-in-Wrong c =
-    c.put_line-filed.auto.actions ∙ c.loop-at.invariant.6
+pub shape_of-actions-in-Err : goal.shape_of-actions-in-Err
+shape_of-actions-in-Err c =
+    c.put_line.auto.actions ∙ c.loop-at.invariant.6
 
-pub returns-in-Wrong : goal.returns-in-Wrong
-returns-in-Wrong c =
+pub returns-in-Err : goal.returns-in-Err
+returns-in-Err c =
     let text = c.args.text.now in
     let l = c.loop-at in
-    let put = c.put_line-filed in
+    let put = c.put_line in
     let pages = pages_at l.models l.connectors l.couplings l.services l.actions in
     let line = take (c.line_end-end.result - l.at) (drop l.at text) in
     let rest = lines_of (drop (next_line (length text) c.line_end-end.result) text) in
-    let filed = filing put.result (pages_at put.new.models put.new.connectors put.new.couplings put.new.services put.new.actions) in
+    let filed = filing l.counts put.result (pages_at put.new.models put.new.connectors put.new.couplings put.new.services put.new.actions) in
     let e = put.ensures ∙ ap (λ r. file_said r.said r.cells l.counts pages) c.read_line-line.ensures in
     let here = lines_at text l.at c.line_end-end.result c.line_end-end.ensures c.loop-at-test.true in
-    ap (λ r. ending r filed.pages) c.wrong.ensures ∙ ap (λ r. ending (Reading.Wrong (l.lines + 1) r.column c.in-Wrong.e) filed.pages) c.read_line-line.ensures ∙ sym (ap (λ ls. read_from ls l.lines l.counts pages) here ∙ file-stops line rest l.lines l.counts pages filed e c.in-Wrong.e c.in-Wrong.is) ∙ l.invariant.7
+    ap (λ r. ending (Err (wrong_line (l.lines + 1) r.column c.in-Err.expected)) filed.pages) c.read_line-line.ensures ∙ sym (ap (λ ls. read_from ls l.lines l.counts pages) here ∙ file-stops line rest l.lines l.counts pages filed e c.in-Err.expected (ap fault_of c.in-Err.is)) ∙ l.invariant.7
 
 pub loop-at-smaller : goal.loop-at-smaller
 loop-at-smaller c =
@@ -69,16 +69,16 @@ pub loop-at-preserved : goal.loop-at-preserved
 loop-at-preserved c =
     let text = c.args.text.now in
     let l = c.loop-at in
-    let put = c.put_line-filed in
+    let put = c.put_line in
     let pages = pages_at l.models l.connectors l.couplings l.services l.actions in
     let line = take (c.line_end-end.result - l.at) (drop l.at text) in
     let rest = lines_of (drop (next_line (length text) c.line_end-end.result) text) in
-    let filed = filing put.result (pages_at put.new.models put.new.connectors put.new.couplings put.new.services put.new.actions) in
+    let filed = filing l.counts put.result (pages_at put.new.models put.new.connectors put.new.couplings put.new.services put.new.actions) in
     let e = put.ensures ∙ ap (λ r. file_said r.said r.cells l.counts pages) c.read_line-line.ensures in
     let here = lines_at text l.at c.line_end-end.result c.line_end-end.ensures c.loop-at-test.true in
     let further = next-further text l.at c.line_end-end.result c.line_end-end.ensures c.loop-at-test.true in
     let within = next-within text l.at c.line_end-end.result c.line_end-end.ensures c.loop-at-test.true in
-    let goes = ap (λ ls. read_from ls l.lines l.counts pages) here ∙ file-goes line rest l.lines l.counts pages filed e c.in-Fine.is in (
+    let goes = ap (λ ls. read_from ls l.lines l.counts pages) here ∙ file-goes line rest l.lines l.counts pages filed e (ap fault_of c.in-Ok.is) in (
       omega (arith, c.next_line-at.ensures, within),
       omega (arith, c.next_line-at.ensures, further, l.invariant.1),
       put.auto.models ∙ l.invariant.2,
@@ -86,7 +86,7 @@ loop-at-preserved c =
       put.auto.couplings ∙ l.invariant.4,
       put.auto.services ∙ l.invariant.5,
       put.auto.actions ∙ l.invariant.6,
-      ap (λ a. read_from (lines_of (drop a text)) (l.lines + 1) filed.counts filed.pages) c.next_line-at.ensures ∙ sym goes ∙ l.invariant.7,
+      ap (λ a. read_from (lines_of (drop a text)) (l.lines + 1) c.in-Ok.more filed.pages) c.next_line-at.ensures ∙ sym (goes ∙ ap (λ r. read_from rest (l.lines + 1) (counts_of l.counts r) filed.pages) c.in-Ok.is) ∙ l.invariant.7,
     )
 
 pub returns : goal.returns
