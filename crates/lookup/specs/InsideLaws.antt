@@ -1,5 +1,5 @@
 -- The laws of the table inside a lent state: where its parts stand, how many rows they have, what a search in them finds, and how wide their words are. Assumes nothing.
-use Rattle.std.specs.Prelude.{ℕ, zero, suc, ◌+◌, ◌-◌, ◌*◌, ◌≤◌, ◌<◌, ◌≡◌, refl, Bool, true, false, List, [], ◌∷◌, map, length, get_or, take, drop, T, eqb, if◌then◌else◌, Option as Answer, None, Some}
+use Rattle.std.specs.Prelude.{Option, ℕ, zero, suc, ◌+◌, ◌-◌, ◌*◌, ◌≤◌, ◌<◌, ◌≡◌, refl, Bool, true, false, List, [], ◌∷◌, map, length, get_or, take, drop, T, eqb, if◌then◌else◌, None, Some}
 use Rattle.std.proofs.Common.{sym, ap, ◌∙◌, subst, arith, zero-add, add-zero, eqb-true, get_or-take, get_or-drop, ltb→lt}
 use Rattle.std.proofs.Math.Nat.{sub-zero}
 use Rattle.rules.specs.Base.{those, hold, from}
@@ -242,7 +242,7 @@ module _ (state : List ℕ) (inside : Inside state) where
       row-search is_free (λ j. is_parentless (row_at (table_in state) j).parent)
       (λ k. ap is_parentless (sym (parent-read (models_in state) (connectors_in state) (couplings_in state) (table_in state) inside.passes k)))
 
-  pub connector-finds : (test : List ℕ → ℕ → Bool) (lead : List ℕ → ℕ → Target) (looked : ℕ) (r : Answer Link) (after : ℕ)
+  pub connector-finds : (test : List ℕ → ℕ → Bool) (lead : List ℕ → ℕ → Target) (looked : ℕ) (r : Option Link) (after : ℕ)
       → Finds (test (lent_connectors state)) (lead (lent_connectors state)) (Selecting.connectors_in (lent_connectors state)) looked r after
       → Finds (test (connectors_in state)) (lead (connectors_in state)) (length (table_in state).connectors) looked r after
   connector-finds test lead looked r after h =
