@@ -17,7 +17,7 @@ use Rattle.words.specs.Lists.{part_length}
 use Rattle.words.specs.Search.{first_from}
 use Rattle.words.specs.SearchLaws.{search-end, first-at, first-nothing}
 use Rattle.words.specs.Queue.{queue_in}
-use Rattle.marks.specs.Jobs.{jobs_in, some_mean, mean_in}
+use Rattle.marks.specs.Jobs.{jobs_in, mean_in}
 use Rattle.marks.specs.MarkingLaws.{fit-rules}
 use Rattle.table.specs.declared.Kind.{Kind}
 use Rattle.table.specs.declared.Kind.TheVariants as kind
@@ -40,17 +40,12 @@ use Rattle.asking.specs.Told.{mean_told, status_told, status_answered}
 pub tail-lent : (state : List ℕ) (start : ℕ) → start ≡ tail_at state → take (length state - start) (drop start state) ≡ tail_in state
 tail-lent state start e = take_all (length state - start) (drop start state) (le_of_eq (length-drop start state)) ∙ ap (λ (k : ℕ). drop k state) e
 
--- ---- a row's status by the kind that is read; no row is named Broken
+-- ---- a row's status by the kind that is read
 abbrev status_named : Kind → ℕ → List ℕ → ℕ → Status
 status_named (kind.Processor p) b mem i = status.Processor (working_of (phase_in mem i))
 status_named (kind.Batcher m) b mem i = status.Batcher (batching_of (phase_in mem i))
 status_named (kind.Stopwatch w) b mem i = mean_told (mean_in (held_in mem i) (own_in b 192 mem))
 status_named kind.Coupled b mem i = status.Parked (held_in mem i)
-status_named kind.Broken b mem i = status.NoMean
-
-mean-said : (m : Option Float) → mean_told (some_mean m) ≡ status_told (Calls.Mean m)
-mean-said None = refl
-mean-said (Some x) = refl
 
 status-named : (k : Table.Kind) (b : ℕ) (mem : List ℕ) (i : ℕ) → Row k b mem i → status_named (named k) b mem i ≡ status_told (status_of (state_in k b mem i))
 unfolding mean_in
@@ -59,7 +54,7 @@ status-named (Table.batcher m) b mem i r = refl
 status-named (Table.stopwatch w) b mem i r = by r.words
   where
     by : WordsFit (Table.stopwatch w) b mem i → mean_told (mean_in (held_in mem i) (own_in b 192 mem)) ≡ status_told (status_of (state_in (Table.stopwatch w) b mem i))
-    by (p & f & u & nil) = rw (fit-rules (held_in mem i) (own_in b 192 mem) (is_true _ f)).whole (mean-said (mean (durations (jobs_in (held_in mem i) (own_in b 192 mem)))))
+    by (p & f & u & nil) = rw (fit-rules (held_in mem i) (own_in b 192 mem) (is_true _ f)).whole refl
 status-named Table.coupled b mem i r = by r.words
   where
     by : WordsFit Table.coupled b mem i → status.Parked (held_in mem i) ≡ status_told (status_of (state_in Table.coupled b mem i))

@@ -1,9 +1,9 @@
 -- A status as it is answered. Definitions only. Assumes nothing.
-use Rattle.std.specs.Prelude.{None, Some}
+use Rattle.std.specs.Prelude.{Float, Option, None, Result, Ok, Err}
+use Rattle.rules.specs.declared.Refusal.{Refusal}
 use Rattle.rules.specs.Base.{Outcome, refused, done}
 use Rattle.rules.specs.Calls as Calls
-use Rattle.marks.specs.declared.MeanOf.{MeanOf}
-use Rattle.marks.specs.declared.MeanOf.TheVariants as meaning
+use Rattle.marks.specs.declared.CutShort.{CutShort}
 use Rattle.asking.specs.declared.Status.{Status}
 use Rattle.asking.specs.declared.Status.TheVariants as status
 
@@ -11,16 +11,14 @@ use Rattle.asking.specs.declared.Status.TheVariants as status
 abbrev pub status_told : Calls.Status → Status
 status_told (Calls.OfProcessor phase) = status.Processor phase
 status_told (Calls.OfBatcher phase) = status.Batcher phase
-status_told (Calls.Mean None) = status.NoMean
-status_told (Calls.Mean (Some mean)) = status.Mean mean
+status_told (Calls.Mean mean) = status.Mean mean
 status_told (Calls.ParkedCount count) = status.Parked count
 
-abbrev pub status_answered : Outcome Calls.Status → Status
-status_answered (refused r) = status.Refused r
-status_answered (done s) = status_told s
+abbrev pub status_answered : Outcome Calls.Status → Result Status Refusal
+status_answered (refused r) = Err r
+status_answered (done s) = Ok (status_told s)
 
 -- a stopwatch's, from its words. Those of a stored state are not cut short
-abbrev pub mean_told : MeanOf → Status
-mean_told (meaning.Mean mean) = status.Mean mean
-mean_told meaning.Nothing = status.NoMean
-mean_told meaning.CutShort = status.NoMean
+abbrev pub mean_told : Result (Option Float) CutShort → Status
+mean_told (Ok mean) = status.Mean mean
+mean_told (Err cut) = status.Mean None

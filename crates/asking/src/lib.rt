@@ -13,19 +13,16 @@ ghost use Rattle.rerunning.specs.Running.{sim_of};
 ghost use Rattle.storing.specs.State.{is_stored};
 ghost use Rattle.asking.specs.Told.{mean_told, status_told, status_answered};
 
-use marks::MeanOf;
 use rules::{BatcherPhase, ProcessorPhase, Refusal};
 use table::Kind;
 
-// 01, "Status", or a refusal.
-#[derive(Clone, Copy)]
+// 01, "Status".
+#[derive(Clone, Copy, Debug, PartialEq)]
 pub enum Status {
     Processor(ProcessorPhase),
     Batcher(BatcherPhase),
-    Mean(f64),
-    NoMean,
+    Mean(Option<f64>),
     Parked(u64),
-    Refused(Refusal),
 }
 
 // The clock.
@@ -55,11 +52,7 @@ pub fn get_messages(state: &[u64], rows: &mut [u64]) -> usize
 fn mean_of(own: &[u64], held: u64) -> Status
     ensures { result ≡ mean_told (mean_in held own.now) }
 {
-    match marks::mean(own, held) {
-        MeanOf::Mean(mean) => Status::Mean(mean),
-        MeanOf::Nothing => Status::NoMean,
-        MeanOf::CutShort => Status::NoMean,
-    }
+    Status::Mean(marks::mean(own, held).unwrap_or(None))
 }
 
 fn processor_phase(phase: u64) -> ProcessorPhase
@@ -110,22 +103,16 @@ fn status_at(state: &[u64], row: usize) -> Status
 }
 
 // The status of the model without parent that has this id, or 4. They are looked at in row order.
-pub fn get_status(state: &[u64], id: u16) -> Status
+pub fn get_status(state: &[u64], id: u16) -> Result<Status, Refusal>
     requires { T (is_stored state.now) }
     ensures { result ≡ status_answered (Calls.get_status id (sim_of state.now)) }
 {
-    let end = lookup::row_count(state);
     let mut from = 0;
-    while from < end {
-        match lookup::next_parentless(state, from) {
-            None => return Status::Refused(Refusal::ModelNotFound),
-            Some(row) => {
-                if lookup::id_of(state, row) == id as u64 {
-                    return status_at(state, row);
-                }
-                from = row + 1;
-            }
+    while let Some(row) = lookup::next_parentless(state, from) {
+        if lookup::id_of(state, row) == id as u64 {
+            return Ok(status_at(state, row));
         }
+        from = row + 1;
     }
-    Status::Refused(Refusal::ModelNotFound)
+    Err(Refusal::ModelNotFound)
 }

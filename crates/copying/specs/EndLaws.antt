@@ -9,13 +9,12 @@ use Rattle.table.specs.Readers.{named}
 use Rattle.memory.specs.Words.{width_of}
 use Rattle.views.specs.World.{widths_of, begin_of, end_of}
 
--- no row is named Broken
+-- the width of a kind by its name
 abbrev width_named : Kind → ℕ
 width_named (kind.Processor p) = 64
 width_named (kind.Batcher b) = 64
 width_named (kind.Stopwatch w) = 192
 width_named kind.Coupled = 64
-width_named kind.Broken = 0
 
 width-named : (k : Table.Kind) → width_named (named k) ≡ width_of k
 width-named (Table.processor p) = refl

@@ -6,10 +6,10 @@ use Rattle.lookup.specs.Inside.{table_in}
 use Rattle.asking.specs.AskLaws.{wanted}
 use Rattle.asking.proofs.get_status.Given as goal
 
-abbrev pub invariant-loop-from : goal.invariant-loop-from
-invariant-loop-from l =
-    (l.end ≡ length (table_in l.state).rows) × (wanted l.id (table_in l.state) 0 ≡ wanted l.id (table_in l.state) l.from)
+abbrev pub invariant-loop-row : goal.invariant-loop-row
+invariant-loop-row l =
+    wanted l.id (table_in l.state) 0 ≡ wanted l.id (table_in l.state) l.from
 
-abbrev pub decreases-loop-from : goal.decreases-loop-from
-decreases-loop-from l =
-    l.end - l.from
+abbrev pub decreases-loop-row : goal.decreases-loop-row
+decreases-loop-row l =
+    length (table_in l.state).rows - l.from

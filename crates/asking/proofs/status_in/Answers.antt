@@ -58,8 +58,3 @@ returns-in-Coupled c =
     let a = c.args in
     ap (λ (n : ℕ). status.Parked n) c.held_at-in-Coupled.ensures
     ∙ status-read (table_in a.state.now) a.mem.now a.row c.requires.1 c.requires.2 c.kind_of.result _ c.kind_of.ensures c.in-Coupled.is
-
-pub returns-in-Broken : goal.returns-in-Broken
-returns-in-Broken c =
-    let a = c.args in
-    status-read (table_in a.state.now) a.mem.now a.row c.requires.1 c.requires.2 c.kind_of.result _ c.kind_of.ensures c.in-Broken.is
