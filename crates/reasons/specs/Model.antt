@@ -1,5 +1,5 @@
 -- A model row that intake refuses breaks the rule that is named: each test that fails breaks its rule, and where all pass the row would be kept. Assumes nothing.
-use Rattle.std.specs.Prelude.{ℕ, zero, suc, ◌/◌, ◌≤◌, ◌<◌, ◌^◌, ◌≡◌, Bool, List, length, if◌then◌else◌, None, Some, Option}
+use Rattle.std.specs.Prelude.{ℕ, zero, suc, ◌/◌, ◌≤◌, ◌<◌, ◌^◌, ◌≡◌, Bool, List, length, if◌then◌else◌, None, Some, Option as Answer, Option}
 use Rattle.std.proofs.Math.Path.{refl, ap, subst}
 use Rattle.std.proofs.Common.{sym, ◌∙◌}
 use Rattle.std.proofs.Math.Bool.{true, false, not}
@@ -24,7 +24,7 @@ use Rattle.table.specs.Readings.{processor-fits}
 use Rattle.table.specs.Searched.{id_and, searched, same_test, has-row}
 use Rattle.table.specs.Earlier.{coupled-id-is, depth_same, row-joins-is}
 use Rattle.reasons.specs.declared.Reason.{Reason}
-use Rattle.reasons.specs.declared.Reason.TheVariants.{NoReason, ModelWide, IdTaken, NoParent, TooDeep}
+use Rattle.reasons.specs.declared.Reason.TheVariants.{ModelWide, IdTaken, NoParent, TooDeep}
 use Rattle.reasons.specs.Checks.{widths, first_broken}
 use Rattle.reasons.specs.Reasons.{taken_by, place_in, parent_stands, depth_kept, depth_checks, depth_reason, place_checks, place_reason, id_checks, join_reason, batcher_checks, batcher_reason, metric_checks, differ_checks, stopwatch_reason, kind_reason, port_reason, shape_checks, model_reason}
 use Rattle.reasons.specs.Breaks.{ModelBreaks, cut_short, unknown-kind, unknown-field, wide-id, wide-port, batch-of-none, large-batch, no-batch-time, unknown-metric, start-is-stop, start-is-ask, stop-is-ask, id-taken, no-parent, too-deep}
@@ -90,7 +90,7 @@ module _ (models : List ℕ) (k : ℕ) (begins : k ≤ length models / model_wid
   abbrev row : List ℕ
   row = row_of model_width models k
 
-  abbrev P : Reason → Type 0
+  abbrev P : Answer Reason → Type 0
   P = ModelBreaks (row_of model_width models) (earlier_in models k) k
 
   coupled-found : (p : ℕ) → parent_fits (earlier_in models k) (Some p) ≡ parent_stands models k (Some p)
@@ -112,28 +112,28 @@ module _ (models : List ℕ) (k : ℕ) (begins : k ≤ length models / model_wid
       rw (row-joins-is models k, w, g, p4, p5, p6, p7, kind, i, ap not (has-row models k (id_in models k) 0 (id_in models k) begins (omega arith) refl) ∙ n, parent_is ∙ p, d)
 
   -- ---- against the rows before it
-  id-breaks : not (is_found (taken_by models k (id_in models k))) ≡ false → P (IdTaken (place_in (taken_by models k (id_in models k))))
+  id-breaks : not (is_found (taken_by models k (id_in models k))) ≡ false → P (Some (IdTaken (place_in (taken_by models k (id_in models k)))))
   id-breaks = go (taken_by models k (id_in models k)) refl
     where
-      go : (f : Option ℕ) → taken_by models k (id_in models k) ≡ f → not (is_found f) ≡ false → P (IdTaken (place_in f))
+      go : (f : Answer ℕ) → taken_by models k (id_in models k) ≡ f → not (is_found f) ≡ false → P (Some (IdTaken (place_in f)))
       go (Some j) e h =
           let first = first-at (matches (id_and (id_in models k) 0 (id_in models k)) 10 models) 0 k j (sym (searched models k (id_in models k) 0 (id_in models k) begins (omega arith)) ∙ e) in
           let both = same_test models k (id_in models k) 0 (id_in models k) begins (omega arith) j ∙ first.2 in
           id-taken {j = j} (omega arith) (eqb-true (id_in models j) (id_in models k) (is_true _ (and_l (eqb (id_in models j) (id_in models k)) (eqb (id_in models j) (id_in models k)) (subst T (sym both) tt))))
       go None e h = absurd (false≢true (sym h))
 
-  parent-breaks : parent_stands models k (parent_in row) ≡ false → P NoParent
+  parent-breaks : parent_stands models k (parent_in row) ≡ false → P (Some NoParent)
   parent-breaks = go (parent_in row) refl
     where
-      go : (o : Option ℕ) → parent_in row ≡ o → parent_stands models k o ≡ false → P NoParent
+      go : (o : Option ℕ) → parent_in row ≡ o → parent_stands models k o ≡ false → P (Some NoParent)
       go None e h = absurd (false≢true (sym h))
       go (Some p) e h = no-parent {p = p} e (λ found. subst T (coupled-found p ∙ h) (passes (coupled-id-decides (earlier_in models k) p) found))
 
-  depth-breaks : depth_kept models k ≡ false → P TooDeep
+  depth-breaks : depth_kept models k ≡ false → P (Some TooDeep)
   unfolding depth_in
   depth-breaks = go (eqb (cell row 1) 4) refl
     where
-      go : (b : Bool) → eqb (cell row 1) 4 ≡ b → (if b then leb (depth_in models k) 4 else true) ≡ false → P TooDeep
+      go : (b : Bool) → eqb (cell row 1) 4 ≡ b → (if b then leb (depth_in models k) 4 else true) ≡ false → P (Some TooDeep)
       go true e h = too-deep (coupled-in row (eqb-true (cell row 1) 4 e)) (rw (depth_same models k (parent_in row)) (leb-false (depth_in models k) 4 h))
       go false e h = absurd (false≢true (sym h))
 
@@ -144,7 +144,7 @@ module _ (models : List ℕ) (k : ℕ) (begins : k ≤ length models / model_wid
     join-told kind =
         named P (id_checks models k) (place_reason models k) (id-breaks & nil)
         (λ n. named P (place_checks models k) (depth_reason models k) (parent-breaks & nil)
-        (λ p. named P (depth_checks models k) NoReason (depth-breaks & nil) (λ d. absurd (false≢true (sym bad ∙ complete shape id ports kind n p d)))))
+        (λ p. named P (depth_checks models k) None (depth-breaks & nil) (λ d. absurd (false≢true (sym bad ∙ complete shape id ports kind n p d)))))
 
     batcher-told : cell row 1 ≡ 2 → P (batcher_reason models k (cell row 8) (cell row 9))
     unfolding batcher_reason

@@ -1,6 +1,6 @@
 -- Of any lent table: the row that intake's verdict names breaks the rule that is named, and one is named exactly where the table is refused. Assumes nothing.
 use Prim.Native.Nat.{ℕ, ◌+◌, ◌*◌, ◌/◌, ◌≤◌, ◌<◌, ◌^◌}
-use Rattle.std.specs.Prelude.{◌≡◌, refl, ◌↔◌, get_or, T}
+use Rattle.std.specs.Prelude.{◌≡◌, refl, ◌↔◌, get_or, T, Option as Answer, None, Some}
 use Rattle.std.proofs.Common.{sym, subst, leb-true, leb-false}
 use Rattle.std.proofs.Math.Logic.{inl, inr}
 use mathlib.Core.List.{List}
@@ -17,7 +17,7 @@ use Rattle.table.specs.Rows.{count_of, row-begins, row-cell}
 use Rattle.table.specs.Judging.{earlier_in}
 use Rattle.table.specs.Refused.{line-is, bad-row, bad-connector, before-is, bad-coupling, some-rows}
 use Rattle.reasons.specs.declared.Reason.{Reason}
-use Rattle.reasons.specs.declared.Reason.TheVariants.{NoReason, ManyCouplings}
+use Rattle.reasons.specs.declared.Reason.TheVariants.{ManyCouplings}
 use Rattle.reasons.specs.Reasons.{size_checks, size_reason, model_reason, connector_reason, coupling_reason, reason_for, reason_of}
 use Rattle.reasons.specs.Breaks.{line_of, rows_in, ModelBreaks, ConnectorBreaks, CouplingBreaks, Breaks, many-models, many-connectors, many-couplings, model, connector, coupling, fine}
 use Rattle.reasons.specs.CheckLaws.{Kept, named}
@@ -40,10 +40,10 @@ module _ (models connectors couplings : List ℕ) where
   size-told : (SizesKeep (lent models connectors couplings) → ⊥) → Breaks models connectors couplings too_large (size_reason models connectors)
   unfolding size_reason
   size-told over =
-      named (Breaks models connectors couplings too_large) (size_checks models connectors) ManyCouplings
+      named (Breaks models connectors couplings too_large) (size_checks models connectors) (Some ManyCouplings)
       ((λ h. many-models (leb-false (count_of model_width models) 64 h)) & (λ h. many-connectors (leb-false (count_of connector_width connectors) 256 h)) & nil) last
     where
-      last : All Kept (size_checks models connectors) → Breaks models connectors couplings too_large ManyCouplings
+      last : All Kept (size_checks models connectors) → Breaks models connectors couplings too_large (Some ManyCouplings)
       last (a & b & nil) = elim (either (at-most (count_of coupling_width couplings) 256)) [
         | inl l ↦ absurd (over (sizes (leb-true (count_of model_width models) 64 a) (leb-true (count_of connector_width connectors) 256 b) l))
         | inr l ↦ let l : ¬ (count_of coupling_width couplings ≤ 256) = l in many-couplings (omega arith)
@@ -94,33 +94,33 @@ module _ (models connectors couplings : List ℕ) where
       told words v ((intake-exactly (lent models connectors couplings) v).0 refl)
 
   -- ---- and there is always one
-  no-model : {line : ℕ → List ℕ} {earlier : List Row} {k : ℕ} → ModelBreaks line earlier k NoReason → ⊥
+  no-model : {line : ℕ → List ℕ} {earlier : List Row} {k : ℕ} → ModelBreaks line earlier k None → ⊥
   no-model b = elim b [ ]
 
-  no-connector : {row : List ℕ} → ConnectorBreaks row NoReason → ⊥
+  no-connector : {row : List ℕ} → ConnectorBreaks row None → ⊥
   no-connector b = elim b [ ]
 
-  no-coupling : {rows : List Row} {row : List ℕ} → CouplingBreaks rows row NoReason → ⊥
+  no-coupling : {rows : List Row} {row : List ℕ} → CouplingBreaks rows row None → ⊥
   no-coupling b = elim b [ ]
 
-  nothing-broken : (v : Verdict) → Breaks models connectors couplings v NoReason → T (is_passed v)
+  nothing-broken : (v : Verdict) → Breaks models connectors couplings v None → T (is_passed v)
   nothing-broken too_large b = elim b [ ]
   nothing-broken (bad_row k) (model b) = no-model b
   nothing-broken (bad_connector k) (connector b) = no-connector b
   nothing-broken (bad_coupling k) (coupling b) = no-coupling b
   nothing-broken (passed t) b = tt
 
-  no-reason : (v : Verdict) → T (is_passed v) → reason_for models connectors couplings v ≡ NoReason
+  no-reason : (v : Verdict) → T (is_passed v) → reason_for models connectors couplings v ≡ None
   no-reason too_large t = absurd t
   no-reason (bad_row k) t = absurd t
   no-reason (bad_connector k) t = absurd t
   no-reason (bad_coupling k) t = absurd t
   no-reason (passed u) t = refl
 
-  pub always-a-reason : AreWords models → (reason_of models connectors couplings ≡ NoReason) ↔ T (is_passed (intake (lent models connectors couplings)))
+  pub always-a-reason : AreWords models → (reason_of models connectors couplings ≡ None) ↔ T (is_passed (intake (lent models connectors couplings)))
   unfolding reason_of
   always-a-reason words =
       let v = intake (lent models connectors couplings) in (
-        λ e. nothing-broken v (subst (λ (r : Reason). Breaks models connectors couplings v r) e (never-made-up words)),
+        λ e. nothing-broken v (subst (λ (r : Answer Reason). Breaks models connectors couplings v r) e (never-made-up words)),
         λ t. no-reason v t,
       )

@@ -2,19 +2,17 @@
 #![tactic(auto)]
 
 ghost use Rattle.std.specs.Prelude.{◌≡◌, ◌-◌};
-ghost use Rattle.words.specs.Search.{next_row};
-ghost use Rattle.table.specs.Judging.{setting_in};
-ghost use Rattle.table.specs.Searched.{id_and};
 ghost use Rattle.reasons.specs.Checks.{first_wide};
 ghost use Rattle.reasons.specs.Reasons as Reasons;
 
-use table::Verdict;
-use words::{Cell, Key};
+use table::{
+    BATCHER, BadTable, CONNECTOR_WIDTH, COUPLED, COUPLING_WIDTH, EXTERNAL_INPUT, INTERNAL, METRIC,
+    MODEL_WIDTH, PROCESSOR, STOPWATCH,
+};
 
 // The rule that is broken. A number is a row of the models, or a word of the bad row, counted from 0.
-#[derive(Clone, Copy)]
+#[derive(Clone, Copy, Debug, PartialEq, Eq)]
 pub enum Reason {
-    NoReason,
     ManyModels,
     ManyConnectors,
     ManyCouplings,
@@ -45,206 +43,181 @@ pub enum Reason {
 fn first_wide(cells: &[u64], first: usize, end: usize) -> Option<usize>
     ensures { result ≡ first_wide cells.now first (end - first) }
 {
-    let mut at = first;
-    while at < end {
+    for at in first..end {
         if 0xFFFF < words::word_at(cells, at) {
             return Some(at);
         }
-        at += 1;
     }
     None
 }
 
-// The first of the first `rows` rows that has the id, and the value in the cell.
-fn row_with(models: &[u64], rows: usize, id: u64, at: usize, value: u64) -> Option<usize>
-    ensures { result ≡ next_row (id_and id at value) 10 0 rows models.now }
-{
-    let named = Cell { at: 0, value: id };
-    let held = Cell { at, value };
-    let key = Key {
-        first: named,
-        second: held,
-        third: held,
-        fourth: held,
-    };
-    words::next_row(models, 10, 0, rows, key)
-}
-
 // What a row breaks by its parent, which is a Coupled before it, or by its depth.
-fn place_reason(models: &[u64], row: usize) -> Reason
+#[tactic(auto, unfolding(crate::specs::Reasons::place_reason))]
+fn place_reason(models: &[u64], row: usize) -> Option<Reason>
     ensures { result ≡ Reasons.place_reason models.now row }
 {
     match table::parent_at(models, row) {
-        Some(id) => match row_with(models, row, id, 1, 4) {
+        Some(id) => match table::row_with(models, row, id, 1, COUPLED) {
             Some(_) => depth_reason(models, row),
-            None => Reason::NoParent,
+            None => Some(Reason::NoParent),
         },
         None => depth_reason(models, row),
     }
 }
 
-// A Coupled (word 1 is 4) may be too deep.
-fn depth_reason(models: &[u64], row: usize) -> Reason
+// A Coupled may be too deep.
+#[tactic(auto, unfolding(crate::specs::Reasons::depth_reason))]
+fn depth_reason(models: &[u64], row: usize) -> Option<Reason>
     ensures { result ≡ Reasons.depth_reason models.now row }
 {
-    if words::word_at(table::model_words(models, row), 1) != 4 {
-        return Reason::NoReason;
+    let kind = words::word_at(table::row_of(models, MODEL_WIDTH, row), 1);
+    if kind == COUPLED && 4 < table::depth_at(models, row) {
+        return Some(Reason::TooDeep);
     }
-    if 4 < table::depth_at(models, row) {
-        return Reason::TooDeep;
-    }
-    Reason::NoReason
+    None
 }
 
 // What a row breaks against the rows before it.
-fn join_reason(models: &[u64], row: usize) -> Reason
+#[tactic(auto, unfolding(crate::specs::Reasons::join_reason))]
+fn join_reason(models: &[u64], row: usize) -> Option<Reason>
     ensures { result ≡ Reasons.join_reason models.now row }
 {
     let id = table::id_at(models, row);
-    match row_with(models, row, id, 0, id) {
-        Some(earlier) => Reason::IdTaken(earlier),
+    match table::row_with(models, row, id, 0, id) {
+        Some(earlier) => Some(Reason::IdTaken(earlier)),
         None => place_reason(models, row),
     }
 }
 
 // What a Batcher breaks by its size or time, or else against the rows before it.
-fn batcher_reason(models: &[u64], row: usize, size: u64, bits: u64) -> Reason
+#[tactic(auto, unfolding(crate::specs::Reasons::batcher_reason, times::specs::Answers::time_of_bits))]
+fn batcher_reason(models: &[u64], row: usize, size: u64, bits: u64) -> Option<Reason>
     ensures { result ≡ Reasons.batcher_reason models.now row size bits }
 {
     if size < 1 {
-        return Reason::BatchOfNone;
+        return Some(Reason::BatchOfNone);
     }
     if 0x4000_0000_0000_0000 < size {
-        return Reason::LargeBatch;
+        return Some(Reason::LargeBatch);
     }
     match times::time_of_bits(bits) {
         Some(_) => join_reason(models, row),
-        None => Reason::NoBatchTime,
-    }
-}
-
-// The metric's word: 0 where it is omitted.
-fn metric_in(cells: &[u64]) -> u64
-    ensures { result ≡ setting_in 4 0 cells.now }
-{
-    if words::word_at(cells, 2) / 4 % 2 == 1 {
-        words::word_at(cells, 8)
-    } else {
-        0
+        None => Some(Reason::NoBatchTime),
     }
 }
 
 // What a Stopwatch breaks by its metric or ports, or else against the rows before it.
-fn stopwatch_reason(models: &[u64], row: usize, cells: &[u64]) -> Reason
+#[tactic(auto, unfolding(crate::specs::Reasons::stopwatch_reason))]
+fn stopwatch_reason(models: &[u64], row: usize, cells: &[u64]) -> Option<Reason>
     ensures { result ≡ Reasons.stopwatch_reason models.now row cells.now }
 {
     let start = words::word_at(cells, 4);
     let stop = words::word_at(cells, 5);
     let ask = words::word_at(cells, 6);
-    if 1 < metric_in(cells) {
-        return Reason::UnknownMetric;
+    if 1 < table::setting_in(cells, METRIC, 0) {
+        return Some(Reason::UnknownMetric);
     }
     if start == stop {
-        return Reason::StartIsStop;
+        return Some(Reason::StartIsStop);
     }
     if start == ask {
-        return Reason::StartIsAsk;
+        return Some(Reason::StartIsAsk);
     }
     if stop == ask {
-        return Reason::StopIsAsk;
+        return Some(Reason::StopIsAsk);
     }
     join_reason(models, row)
 }
 
 // What a row whose ids and ports fit breaks: its kind's own fields first.
-fn kind_reason(models: &[u64], row: usize, cells: &[u64]) -> Reason
+#[tactic(auto, unfolding(crate::specs::Reasons::kind_reason))]
+fn kind_reason(models: &[u64], row: usize, cells: &[u64]) -> Option<Reason>
     ensures { result ≡ Reasons.kind_reason models.now row cells.now }
 {
-    let kind = words::word_at(cells, 1);
-    if kind == 2 {
-        let size = words::word_at(cells, 8);
-        let bits = words::word_at(cells, 9);
-        return batcher_reason(models, row, size, bits);
+    match words::word_at(cells, 1) {
+        BATCHER => {
+            let size = words::word_at(cells, 8);
+            let bits = words::word_at(cells, 9);
+            batcher_reason(models, row, size, bits)
+        }
+        STOPWATCH => stopwatch_reason(models, row, cells),
+        _ => join_reason(models, row),
     }
-    if kind == 3 {
-        return stopwatch_reason(models, row, cells);
-    }
-    join_reason(models, row)
 }
 
 // What a row breaks by its id (word 0) or its ports (words 4 to 7), or else by its kind.
-fn port_reason(models: &[u64], row: usize, cells: &[u64]) -> Reason
+#[tactic(auto, unfolding(crate::specs::Reasons::port_reason))]
+fn port_reason(models: &[u64], row: usize, cells: &[u64]) -> Option<Reason>
     ensures { result ≡ Reasons.port_reason models.now row cells.now }
 {
     if 0xFFFF < words::word_at(cells, 0) {
-        return Reason::ModelWide(0);
+        return Some(Reason::ModelWide(0));
     }
     match first_wide(cells, 4, 8) {
-        Some(cell) => Reason::ModelWide(cell),
+        Some(cell) => Some(Reason::ModelWide(cell)),
         None => kind_reason(models, row, cells),
     }
 }
 
 // Why a model row is refused.
-fn model_reason(models: &[u64], row: usize) -> Reason
+#[tactic(auto, unfolding(crate::specs::Reasons::model_reason))]
+fn model_reason(models: &[u64], row: usize) -> Option<Reason>
     ensures { result ≡ Reasons.model_reason models.now row }
 {
-    let cells = table::model_words(models, row);
-    if cells.len() != 10 {
-        return Reason::ModelCutShort;
+    let cells = table::row_of(models, MODEL_WIDTH, row);
+    if cells.len() != MODEL_WIDTH {
+        return Some(Reason::ModelCutShort);
     }
     let kind = words::word_at(cells, 1);
-    if kind < 1 {
-        return Reason::UnknownKind;
-    }
-    if 4 < kind {
-        return Reason::UnknownKind;
+    if kind < PROCESSOR || COUPLED < kind {
+        return Some(Reason::UnknownKind);
     }
     if 7 < words::word_at(cells, 2) {
-        return Reason::UnknownField;
+        return Some(Reason::UnknownField);
     }
     port_reason(models, row, cells)
 }
 
 // Why a connector is refused.
-fn connector_reason(cells: &[u64]) -> Reason
+#[tactic(auto, unfolding(crate::specs::Reasons::connector_reason))]
+fn connector_reason(cells: &[u64]) -> Option<Reason>
     ensures { result ≡ Reasons.connector_reason cells.now }
 {
-    if cells.len() != 4 {
-        return Reason::ConnectorCutShort;
+    if cells.len() != CONNECTOR_WIDTH {
+        return Some(Reason::ConnectorCutShort);
     }
     match first_wide(cells, 0, 4) {
-        Some(cell) => Reason::ConnectorWide(cell),
-        None => Reason::NoReason,
+        Some(cell) => Some(Reason::ConnectorWide(cell)),
+        None => None,
     }
 }
 
 // What a coupling breaks against the models.
-fn owner_reason(models: &[u64], owner: u64, kind: u64, target: u64) -> Reason
+#[tactic(auto, unfolding(crate::specs::Reasons::owner_reason))]
+fn owner_reason(models: &[u64], owner: u64, kind: u64, target: u64) -> Option<Reason>
     ensures { result ≡ Reasons.owner_reason models.now owner kind target }
 {
-    if let None = row_with(models, models.len() / 10, owner, 1, 4) {
-        return Reason::NoOwner;
+    let rows = models.len() / MODEL_WIDTH;
+    if let None = table::row_with(models, rows, owner, 1, COUPLED) {
+        return Some(Reason::NoOwner);
     }
-    if kind != 1 {
-        return Reason::NoReason;
+    if kind == EXTERNAL_INPUT && !table::is_component(models, owner, target) {
+        return Some(Reason::NoComponent);
     }
-    if table::is_component(models, owner, target) {
-        return Reason::NoReason;
-    }
-    Reason::NoComponent
+    None
 }
 
 // What a coupling breaks by its ids and ports (words 0 and 2 to 5), or else against the models.
-fn end_reason(models: &[u64], cells: &[u64]) -> Reason
+#[tactic(auto, unfolding(crate::specs::Reasons::end_reason))]
+fn end_reason(models: &[u64], cells: &[u64]) -> Option<Reason>
     ensures { result ≡ Reasons.end_reason models.now cells.now }
 {
     let owner = words::word_at(cells, 0);
     if 0xFFFF < owner {
-        return Reason::CouplingWide(0);
+        return Some(Reason::CouplingWide(0));
     }
     match first_wide(cells, 2, 6) {
-        Some(cell) => Reason::CouplingWide(cell),
+        Some(cell) => Some(Reason::CouplingWide(cell)),
         None => {
             let kind = words::word_at(cells, 1);
             let target = words::word_at(cells, 4);
@@ -254,46 +227,48 @@ fn end_reason(models: &[u64], cells: &[u64]) -> Reason
 }
 
 // Why a coupling is refused.
-fn coupling_reason(models: &[u64], cells: &[u64]) -> Reason
+#[tactic(auto, unfolding(crate::specs::Reasons::coupling_reason))]
+fn coupling_reason(models: &[u64], cells: &[u64]) -> Option<Reason>
     ensures { result ≡ Reasons.coupling_reason models.now cells.now }
 {
-    if cells.len() != 6 {
-        return Reason::CouplingCutShort;
+    if cells.len() != COUPLING_WIDTH {
+        return Some(Reason::CouplingCutShort);
     }
     let kind = words::word_at(cells, 1);
-    if kind < 1 {
-        return Reason::UnknownCoupling;
-    }
-    if 3 < kind {
-        return Reason::UnknownCoupling;
+    if kind < EXTERNAL_INPUT || INTERNAL < kind {
+        return Some(Reason::UnknownCoupling);
     }
     end_reason(models, cells)
 }
 
 // Which part of a table is too large.
-fn size_reason(models: &[u64], connectors: &[u64]) -> Reason
+#[tactic(auto, unfolding(crate::specs::Reasons::size_reason))]
+fn size_reason(models: &[u64], connectors: &[u64]) -> Option<Reason>
     ensures { result ≡ Reasons.size_reason models.now connectors.now }
 {
     if 640 < models.len() {
-        return Reason::ManyModels;
+        return Some(Reason::ManyModels);
     }
     if 1024 < connectors.len() {
-        return Reason::ManyConnectors;
+        return Some(Reason::ManyConnectors);
     }
-    Reason::ManyCouplings
+    Some(Reason::ManyCouplings)
 }
 
-// Why intake refuses a table: the rule that its first bad row breaks, or the part that is too large. NoReason where it passes.
-pub fn reason_of(models: &[u64], connectors: &[u64], couplings: &[u64]) -> Reason
+// Why intake refuses a table: the rule that its first bad row breaks, or the part that is too large; none where it passes.
+#[tactic(auto, unfolding(crate::specs::Reasons::reason_of))]
+pub fn reason_of(models: &[u64], connectors: &[u64], couplings: &[u64]) -> Option<Reason>
     ensures { result ≡ Reasons.reason_of models.now connectors.now couplings.now }
 {
     match table::intake(models, connectors, couplings) {
-        Verdict::Passed => Reason::NoReason,
-        Verdict::TooLarge => size_reason(models, connectors),
-        Verdict::BadRow(row) => model_reason(models, row),
-        Verdict::BadConnector(row) => connector_reason(table::connector_words(connectors, row)),
-        Verdict::BadCoupling(row) => {
-            coupling_reason(models, table::coupling_words(couplings, row))
+        Ok(()) => None,
+        Err(BadTable::TooLarge) => size_reason(models, connectors),
+        Err(BadTable::Row(row)) => model_reason(models, row),
+        Err(BadTable::Connector(row)) => {
+            connector_reason(table::row_of(connectors, CONNECTOR_WIDTH, row))
+        }
+        Err(BadTable::Coupling(row)) => {
+            coupling_reason(models, table::row_of(couplings, COUPLING_WIDTH, row))
         }
     }
 }

@@ -7,7 +7,3 @@ use Rattle.reasons.proofs.first_wide.Given as goal
 abbrev pub invariant-loop-at : goal.invariant-loop-at
 invariant-loop-at l =
     first_wide l.cells l.at (l.end - l.at) ≡ first_wide l.cells l.first (l.end - l.first)
-
-abbrev pub decreases-loop-at : goal.decreases-loop-at
-decreases-loop-at l =
-    l.end - l.at
