@@ -1,8 +1,6 @@
 // A line's numbers, each decimal or `0x` and 16 digits.
 ghost use Rattle.std.specs.Prelude.{◌≤◌, length};
 
-use bench_words::Number;
-
 // How many numbers a line begins with, and where they end: at the `#` before a name.
 #[derive(Clone, Copy)]
 pub(crate) struct Line {
@@ -10,7 +8,7 @@ pub(crate) struct Line {
     pub(crate) end: usize,
 }
 
-fn number(word: &[u8]) -> Number {
+fn number(word: &[u8]) -> Option<u64> {
     if word.len() == 18 {
         return bench_words::time_of(word);
     }
@@ -33,7 +31,7 @@ pub(crate) fn numbers(line: &[u8], words: &mut [u64]) -> Line
         if line.len() < end {
             return Line { count, end: start };
         }
-        let Number::Is(value) = number(&line[start..end]) else {
+        let Some(value) = number(&line[start..end]) else {
             return Line { count, end: start };
         };
         words[count] = value;

@@ -3,7 +3,6 @@ ghost use Rattle.std.specs.Prelude.{◌≤◌, length};
 
 use crate::course::Settings;
 use crate::say;
-use bench_words::Number;
 use std::env::{Env, FillError};
 use std::fs::File;
 use std::io::{ErrorKind, Read, Seek, SeekFrom, Stdin};
@@ -140,8 +139,5 @@ pub(crate) fn settings(rt: HostRuntime, rows: bool) -> Settings<'static> {
 pub(crate) fn first_block(rt: HostRuntime) -> u64 {
     let mut word = [0u8; 20];
     let length = argument(rt, 3, &mut word);
-    match bench_words::number_of(&word[..length], u64::MAX) {
-        Number::Is(number) => number,
-        Number::Not => 0,
-    }
+    bench_words::number_of(&word[..length], u64::MAX).unwrap_or(0)
 }

@@ -3,7 +3,7 @@ ghost use Rattle.std.specs.Prelude.{◌≤◌, length};
 
 use crate::course::{Course, Settings};
 use crate::{course, input, out, room, say, steps, trace, warn, why};
-use bench_file::{Counts, Page, Reading};
+use bench_file::{Counts, Misread, Page};
 use memory::Answer;
 use rules::{Message, Refusal};
 use std::io::Stderr;
@@ -45,15 +45,17 @@ pub(crate) fn file(rt: HostRuntime, path: &[u8], text: &[u8]) -> u64 {
         &mut actions,
     );
     match reading {
-        Reading::Wrong {
-            line,
-            column,
-            expected,
-        } => {
+        Err(
+            Misread {
+                line,
+                column,
+                expected,
+            },
+        ) => {
             say::wrong_line(rt.stderr(), path, text, line, column, expected);
             course::WRONG
         }
-        Reading::Read(counts) => posted(
+        Ok(counts) => posted(
             rt,
             path,
             text,

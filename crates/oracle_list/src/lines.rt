@@ -1,8 +1,6 @@
 // The lines of the list: each is numbers, decimal or `0x` and 16 digits.
 ghost use Rattle.std.specs.Prelude.{◌≤◌, length};
 
-use bench_words::Number;
-
 // How many numbers a line has, 0 where it is none of the list's, and where the next line begins.
 #[derive(Clone, Copy)]
 pub(crate) struct Line {
@@ -10,7 +8,7 @@ pub(crate) struct Line {
     pub(crate) next: usize,
 }
 
-fn number(word: &[u8]) -> Number {
+fn number(word: &[u8]) -> Option<u64> {
     if word.len() == 18 {
         return bench_words::time_of(word);
     }
@@ -33,7 +31,7 @@ fn numbers(line: &[u8], words: &mut [u64]) -> usize
         if line.len() < end {
             return 0;
         }
-        let Number::Is(value) = number(&line[start..end]) else {
+        let Some(value) = number(&line[start..end]) else {
             return 0;
         };
         words[count] = value;
