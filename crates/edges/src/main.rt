@@ -2,7 +2,6 @@
 #![tactic(auto)]
 
 mod batchers;
-mod lines;
 mod processors;
 mod queue;
 mod readers;
@@ -13,58 +12,89 @@ mod tables;
 mod values;
 mod watch;
 
+use number_lines::Line;
+use sheet::Sheet;
 use std::io;
 use std::io::Read;
+use watch::Use;
+
+// What happens to an atom: as the engine calls it, or by the rule's words.
+#[derive(Clone, Copy)]
+pub(crate) enum Event {
+    External,
+    Internal,
+    ExternalRule,
+    InternalRule,
+}
 
 // A case, by the number of what is called.
-fn call(rt: &impl Print, what: u64, asked: &[u64], words: &mut [u64; 4096]) -> io::Result<()> {
+fn call(rt: &impl Print, what: u64, asked: &[u64], sheet: &mut Sheet) -> io::Result<()> {
     match what {
         1 => services::run(rt, asked),
-        2..=5 => processors::run(rt, what, asked),
-        6..=9 => batchers::run(rt, what, asked),
-        10..=18 => watch::run(rt, what, asked, words),
-        19..=22 => queue::run(rt, what, asked),
-        23 => tables::intake(rt, words, asked),
-        24 => readers::of_sheet(rt, words, asked),
+        2 => processors::run(rt, Event::External, asked),
+        3 => processors::run(rt, Event::Internal, asked),
+        4 => processors::run(rt, Event::ExternalRule, asked),
+        5 => processors::run(rt, Event::InternalRule, asked),
+        6 => batchers::run(rt, Event::External, asked),
+        7 => batchers::run(rt, Event::Internal, asked),
+        8 => batchers::run(rt, Event::ExternalRule, asked),
+        9 => batchers::run(rt, Event::InternalRule, asked),
+        10 => watch::run(rt, Use::Event(Event::External), asked, sheet),
+        11 => watch::run(rt, Use::Event(Event::Internal), asked, sheet),
+        12 => watch::run(rt, Use::Event(Event::ExternalRule), asked, sheet),
+        13 => watch::run(rt, Use::Event(Event::InternalRule), asked, sheet),
+        14 => watch::changes(rt, asked, sheet),
+        15 => watch::run(rt, Use::CountSet, asked, sheet),
+        16 => watch::run(rt, Use::Mean, asked, sheet),
+        17 => watch::run(rt, Use::ReadJob, asked, sheet),
+        18 => watch::run(rt, Use::ReadWord, asked, sheet),
+        19 => queue::push(rt, asked),
+        20 => queue::move_up(rt, asked),
+        21 => queue::next_row(rt, asked),
+        22 => queue::word(rt, asked),
+        23 => tables::intake(rt, sheet, asked),
+        24 => readers::of_sheet(rt, sheet, asked),
         _ => readers::of_line(rt, asked),
     }
 }
 
-// A line: words that are laid down, or a case and its name.
-fn one(rt: &impl Print, line: &[u8], words: &mut [u64; 4096]) -> io::Result<()> {
-    let mut numbers = [0u64; 512];
-    let read = lines::numbers(line, &mut numbers);
-    let count = read.count;
-    let what = numbers[0];
-    if count == 0 {
-        return Ok(());
+// A case's name, which stands behind `# ` in its line.
+fn heading(rt: &impl Print, rest: &[u8]) -> io::Result<()> {
+    match rest.get(2..) {
+        Some(name) => rt.write_all(name),
+        None => Ok(()),
     }
-    if what == 0 {
-        sheet::lay(words, &numbers[0..count]);
-        return Ok(());
-    }
-    if what == 26 {
-        sheet::fill(words, &numbers[0..count]);
-        return Ok(());
-    }
-    say::heading(rt, line, read.end)?;
-    call(rt, what, &numbers[0..count], words)?;
-    say::text(rt, say::END)
 }
 
+// A line: words that are laid down, or a case and its name.
+fn one(rt: &impl Print, line: &[u8], sheet: &mut Sheet) -> io::Result<()> {
+    let mut room = [0u64; 512];
+    let Line { numbers, rest } = number_lines::read(line, &mut room);
+    match numbers {
+        [] => Ok(()),
+        [0, ..] => {
+            sheet::lay(sheet, numbers);
+            Ok(())
+        }
+        [26, ..] => {
+            sheet::fill(sheet, numbers);
+            Ok(())
+        }
+        [what, ..] => {
+            heading(rt, rest)?;
+            call(rt, *what, numbers, sheet)?;
+            rt.print("\n")
+        }
+    }
+}
+
+// The lines that end with a newline.
 fn all(rt: &impl Print, text: &[u8]) -> io::Result<()> {
-    let mut words = [0u64; 4096];
-    let mut at = 0;
-    while at < text.len() {
-        let end = bench_words::line_end(text, at);
-        if end < at {
-            return Ok(());
+    let mut sheet = [0u64; 4096];
+    for line in text.split_inclusive(|byte| *byte == b'\n') {
+        if let Some(line) = line.strip_suffix(b"\n") {
+            one(rt, line, &mut sheet)?;
         }
-        if text.len() <= end {
-            return Ok(());
-        }
-        one(rt, &text[at..end], &mut words)?;
-        at = end + 1;
     }
     Ok(())
 }

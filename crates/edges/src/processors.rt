@@ -1,5 +1,5 @@
 // The processor.
-use crate::{say, values};
+use crate::{Event, say, values};
 use atoms::{ProcessorGone, ProcessorState, ProcessorTaken};
 use rules::{Processor, ProcessorPhase};
 use std::io;
@@ -12,10 +12,16 @@ fn phase_of(word: u64) -> ProcessorPhase {
     }
 }
 
+fn name(phase: ProcessorPhase) -> &'static str {
+    match phase {
+        ProcessorPhase::Passive => "Passive",
+        ProcessorPhase::Active => "Active",
+    }
+}
+
 fn state_of(asked: &[u64]) -> ProcessorState {
-    let phase = phase_of(word_at(asked, 1));
     ProcessorState {
-        phase,
+        phase: phase_of(word_at(asked, 1)),
         timer: values::float(word_at(asked, 2)),
         held: word_at(asked, 3),
     }
@@ -23,29 +29,21 @@ fn state_of(asked: &[u64]) -> ProcessorState {
 
 // The state, and the place in the service list.
 fn say_state(rt: &impl Print, state: ProcessorState, place: u64) -> io::Result<()> {
-    let phase = state.phase;
-    match phase {
-        ProcessorPhase::Passive => say::state(rt, say::PASSIVE, state.timer, state.held)?,
-        ProcessorPhase::Active => say::state(rt, say::ACTIVE, state.timer, state.held)?,
-    }
-    say::named(rt, say::PLACE, place)
+    say::state(rt, name(state.phase), state.timer, state.held)?;
+    print!(rt; ", place {place}")
 }
 
 fn say_taken(rt: &impl Print, taken: ProcessorTaken) -> io::Result<()> {
-    let next = taken.next;
-    let answer = taken.answer;
-    say::taken(rt, answer)?;
-    say_state(rt, next, taken.place)
+    say::taken(rt, taken.answer)?;
+    say_state(rt, taken.next, taken.place)
 }
 
 fn say_gone(rt: &impl Print, gone: ProcessorGone) -> io::Result<()> {
-    let next = gone.next;
-    let answer = gone.answer;
-    say::gone(rt, answer)?;
-    say_state(rt, next, gone.place)
+    say::gone(rt, gone.answer)?;
+    say_state(rt, gone.next, gone.place)
 }
 
-fn event(rt: &impl Print, what: u64, asked: &[u64], services: &[f64]) -> io::Result<()> {
+fn on(rt: &impl Print, event: Event, asked: &[u64], services: &[f64]) -> io::Result<()> {
     let state = state_of(asked);
     let row = Processor {
         input: 1,
@@ -53,24 +51,23 @@ fn event(rt: &impl Print, what: u64, asked: &[u64], services: &[f64]) -> io::Res
         queue_capacity: word_at(asked, 4),
     };
     let place = word_at(asked, 5);
-    let port = values::short(word_at(asked, 6));
-    match what {
-        2 => say_taken(rt, state.external(row, services, place, port)),
-        3 => say_gone(rt, state.internal(row, services, place)),
-        4 => say_taken(rt, state.external_rule(row, services, place, port)),
-        _ => say_gone(rt, state.internal_rule(services, place)),
+    let port = values::port(word_at(asked, 6));
+    match event {
+        Event::External => say_taken(rt, state.external(row, services, place, port)),
+        Event::Internal => say_gone(rt, state.internal(row, services, place)),
+        Event::ExternalRule => say_taken(rt, state.external_rule(row, services, place, port)),
+        Event::InternalRule => say_gone(rt, state.internal_rule(services, place)),
     }
 }
 
 // The service times stand behind the first seven numbers.
-pub(crate) fn run(rt: &impl Print, what: u64, asked: &[u64]) -> io::Result<()> {
-    let mut times = [0f64; 8];
-    if asked.len() < 7 {
+pub(crate) fn run(rt: &impl Print, event: Event, asked: &[u64]) -> io::Result<()> {
+    let mut room = [0f64; 8];
+    let Some(bits) = asked.get(7..) else {
         return Ok(());
+    };
+    match values::times_of(bits, &mut room) {
+        Some(services) => on(rt, event, asked, services),
+        None => Ok(()),
     }
-    if 15 < asked.len() {
-        return Ok(());
-    }
-    values::lay_times(&mut times, &asked[7..]);
-    event(rt, what, asked, &times[0..asked.len() - 7])
 }

@@ -1,35 +1,46 @@
 // What the readers say of a row.
-use crate::say;
 use rules::{Batcher, Metric, Processor, Stopwatch};
 use std::io;
 use table::{Kind, Parent};
 use words::word_at;
 
-fn say_ports(rt: &impl Print, kind: usize, input: u16, output: u16) -> io::Result<()> {
-    say::text(rt, kind)?;
-    say::named(rt, say::PORTS, input as u64)?;
-    say::named(rt, say::BLANK, output as u64)
-}
-
 fn say_processor(rt: &impl Print, row: Processor) -> io::Result<()> {
-    say_ports(rt, say::PROCESSOR, row.input, row.output)?;
-    say::named(rt, say::CAPACITY, row.queue_capacity)
+    let Processor {
+        input,
+        output,
+        queue_capacity,
+    } = row;
+    print!(rt; "; processor, ports {input} {output}, capacity {queue_capacity}")
 }
 
 fn say_batcher(rt: &impl Print, row: Batcher) -> io::Result<()> {
-    say_ports(rt, say::BATCHER, row.input, row.output)?;
-    say::named(rt, say::SIZE, row.max_batch_size)?;
-    say::bits(rt, say::BATCH_TIME, row.max_batch_time)
+    let Batcher {
+        input,
+        output,
+        max_batch_size,
+        max_batch_time,
+    } = row;
+    let time = times::bits_of(max_batch_time);
+    print!(rt; "; batcher, ports {input} {output}, size {max_batch_size}, time {time:016x}")
+}
+
+fn name(metric: Metric) -> &'static str {
+    match metric {
+        Metric::Minimum => "Minimum",
+        Metric::Maximum => "Maximum",
+    }
 }
 
 fn say_stopwatch(rt: &impl Print, row: Stopwatch) -> io::Result<()> {
-    let metric = row.metric;
-    say_ports(rt, say::STOPWATCH, row.start, row.stop)?;
-    say_ports(rt, say::NO_TEXT, row.ask, row.output)?;
-    match metric {
-        Metric::Minimum => say::text(rt, say::MINIMUM),
-        Metric::Maximum => say::text(rt, say::MAXIMUM),
-    }
+    let Stopwatch {
+        start,
+        stop,
+        ask,
+        output,
+        metric,
+    } = row;
+    let metric = name(metric);
+    print!(rt; "; stopwatch, ports {start} {stop}, ports {ask} {output}, {metric}")
 }
 
 fn say_kind(rt: &impl Print, kind: Kind) -> io::Result<()> {
@@ -37,40 +48,41 @@ fn say_kind(rt: &impl Print, kind: Kind) -> io::Result<()> {
         Kind::Processor(row) => say_processor(rt, row),
         Kind::Batcher(row) => say_batcher(rt, row),
         Kind::Stopwatch(row) => say_stopwatch(rt, row),
-        Kind::Coupled => say::text(rt, say::COUPLED),
-        Kind::Broken => say::text(rt, say::BROKEN),
+        Kind::Coupled => rt.print("; Coupled"),
+        Kind::Broken => rt.print("; broken"),
     }
 }
 
 fn say_parent(rt: &impl Print, parent: Parent) -> io::Result<()> {
     match parent {
-        Parent::Of(id) => say::named(rt, say::PARENT, id),
-        Parent::Nobody => say::text(rt, say::NO_PARENT),
+        Parent::Of(id) => print!(rt; "; parent {id}"),
+        Parent::Nobody => rt.print("; no parent"),
     }
 }
 
 // A row's id, what it is, its parent and its depth.
 fn read(rt: &impl Print, models: &[u64], row: usize) -> io::Result<()> {
-    say::named(rt, say::ID, table::id_at(models, row))?;
+    let id = table::id_at(models, row);
+    print!(rt; ": id {id}")?;
     say_kind(rt, table::kind_at(models, row))?;
     say_parent(rt, table::parent_at(models, row))?;
-    say::named(rt, say::DEPTH, table::depth_at(models, row) as u64)
+    let depth = table::depth_at(models, row);
+    print!(rt; "; depth {depth}")
 }
 
 // A row of the sheet's first words.
 pub(crate) fn of_sheet(rt: &impl Print, sheet: &[u64], asked: &[u64]) -> io::Result<()> {
     let row = word_at(asked, 1) as usize;
-    let count = word_at(asked, 2) as usize;
-    if count <= sheet.len() {
-        return read(rt, &sheet[0..count], row);
+    match sheet.get(..word_at(asked, 2) as usize) {
+        Some(models) => read(rt, models, row),
+        None => Ok(()),
     }
-    Ok(())
 }
 
 // A row of the words that stand in the line.
 pub(crate) fn of_line(rt: &impl Print, asked: &[u64]) -> io::Result<()> {
-    if 2 <= asked.len() {
-        return read(rt, &asked[2..], word_at(asked, 1) as usize);
+    match asked.get(2..) {
+        Some(models) => read(rt, models, word_at(asked, 1) as usize),
+        None => Ok(()),
     }
-    Ok(())
 }

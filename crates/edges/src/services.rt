@@ -5,8 +5,8 @@ use std::io;
 use words::word_at;
 
 fn found(rt: &impl Print, time: f64, next: u64) -> io::Result<()> {
-    say::bits(rt, say::TIME, time)?;
-    say::named(rt, say::THEN, next)
+    let time = times::bits_of(time);
+    print!(rt; ": time {time:016x}, then place {next}")
 }
 
 // What stands at a place of the list.
@@ -18,13 +18,12 @@ fn read(rt: &impl Print, services: &[f64], place: u64) -> io::Result<()> {
 }
 
 pub(crate) fn run(rt: &impl Print, asked: &[u64]) -> io::Result<()> {
-    let mut times = [0f64; 8];
-    if asked.len() < 2 {
+    let mut room = [0f64; 8];
+    let Some(bits) = asked.get(2..) else {
         return Ok(());
+    };
+    match values::times_of(bits, &mut room) {
+        Some(services) => read(rt, services, word_at(asked, 1)),
+        None => Ok(()),
     }
-    if 10 < asked.len() {
-        return Ok(());
-    }
-    values::lay_times(&mut times, &asked[2..]);
-    read(rt, &times[0..asked.len() - 2], word_at(asked, 1))
 }

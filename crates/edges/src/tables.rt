@@ -1,60 +1,32 @@
 // Intake of the table that stands in the sheet.
+use crate::sheet::Sheet;
 use crate::{say, sheet};
 use std::io;
+use words::word_at;
 
-// What intake says of the first words of each part of the sheet.
-fn judge(
-    rt: &impl Print,
-    words: &[u64],
-    models: usize,
-    connectors: usize,
-    couplings: usize,
-) -> io::Result<()> {
-    if words.len() < 4096 {
+// What intake says of the first words of each part of the sheet: so many models, connectors and couplings.
+fn judge(rt: &impl Print, sheet: &[u64], asked: &[u64]) -> io::Result<()> {
+    let (Some(models), Some(connectors), Some(couplings)) = (
+        part(sheet, 0, 1000, word_at(asked, 1)),
+        part(sheet, 1000, 1100, word_at(asked, 2)),
+        part(sheet, 2100, 1900, word_at(asked, 3)),
+    ) else {
         return Ok(());
-    }
-    if 1000 < models {
-        return Ok(());
-    }
-    if 1100 < connectors {
-        return Ok(());
-    }
-    if 1900 < couplings {
-        return Ok(());
-    }
-    say::verdict(
-        rt,
-        table::intake(
-            &words[0..models],
-            &words[1000..1000 + connectors],
-            &words[2100..2100 + couplings],
-        ),
-    )
+    };
+    say::verdict(rt, table::intake(models, connectors, couplings))
 }
 
-// The sheet lent whole.
-fn lend(
-    rt: &impl Print,
-    words: &[u64; 4096],
-    models: u64,
-    connectors: u64,
-    couplings: u64,
-) -> io::Result<()> {
-    judge(
-        rt,
-        words,
-        models as usize,
-        connectors as usize,
-        couplings as usize,
-    )
+// So many words from a place of the sheet on, where they are at most `most`.
+fn part(sheet: &[u64], from: usize, most: usize, count: u64) -> Option<&[u64]> {
+    sheet.get(from..)?.get(..most)?.get(..count as usize)
 }
 
 // A table, with words changed for this case alone.
-pub(crate) fn intake(rt: &impl Print, sheet: &[u64; 4096], asked: &[u64]) -> io::Result<()> {
-    let mut words = *sheet;
-    if asked.len() < 4 {
+pub(crate) fn intake(rt: &impl Print, sheet: &Sheet, asked: &[u64]) -> io::Result<()> {
+    let mut changed = *sheet;
+    let Some(pairs) = asked.get(4..) else {
         return Ok(());
-    }
-    sheet::change(&mut words, &asked[4..]);
-    lend(rt, &words, asked[1], asked[2], asked[3])
+    };
+    sheet::change(&mut changed, pairs);
+    judge(rt, &changed, asked)
 }

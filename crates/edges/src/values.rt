@@ -21,30 +21,22 @@ fn other(bits: u64) -> f64 {
     }
 }
 
-// The service times, from their bits.
-pub(crate) fn lay_times(times: &mut [f64], bits: &[u64]) {
-    let mut at = 0;
-    while at < bits.len() {
-        if times.len() <= at {
-            return;
-        }
-        times[at] = float(bits[at]);
-        at += 1;
+// The times of these bits, laid into the room, where that is enough for them.
+pub(crate) fn times_of<'a>(bits: &[u64], room: &'a mut [f64]) -> Option<&'a [f64]> {
+    if room.len() < bits.len() {
+        return None;
     }
+    for (time, bits) in room.iter_mut().zip(bits) {
+        *time = float(*bits);
+    }
+    Some(&room[..bits.len()])
 }
 
-// A port.
-pub(crate) fn short(word: u64) -> u16 {
-    if 65535 < word {
-        return 0;
-    }
-    word as u16
+pub(crate) fn port(word: u64) -> u16 {
+    u16::try_from(word).unwrap_or(0)
 }
 
 // A job's name.
-pub(crate) fn small(word: u64) -> u32 {
-    if 4294967295 < word {
-        return 0;
-    }
-    word as u32
+pub(crate) fn job(word: u64) -> u32 {
+    u32::try_from(word).unwrap_or(0)
 }

@@ -1,10 +1,21 @@
 // The stopwatch, on words from a place of the sheet to another.
-use crate::{say, sheet, values};
+use crate::sheet::Sheet;
+use crate::{Event, say, sheet, values};
 use atoms::{Named, StopwatchGone, StopwatchState, StopwatchTaken};
 use marks::MeanOf;
 use rules::{Metric, Stopwatch, StopwatchPhase};
 use std::io;
 use words::word_at;
+
+// What is done with the words that are lent.
+#[derive(Clone, Copy)]
+pub(crate) enum Use {
+    Event(Event),
+    CountSet,
+    Mean,
+    ReadJob,
+    ReadWord,
+}
 
 fn metric_of(word: u64) -> Metric {
     match word {
@@ -14,13 +25,12 @@ fn metric_of(word: u64) -> Metric {
 }
 
 fn row_of(asked: &[u64]) -> Stopwatch {
-    let metric = metric_of(word_at(asked, 9));
     Stopwatch {
-        start: values::short(word_at(asked, 6)),
-        stop: values::short(word_at(asked, 7)),
-        ask: values::short(word_at(asked, 8)),
+        start: values::port(word_at(asked, 6)),
+        stop: values::port(word_at(asked, 7)),
+        ask: values::port(word_at(asked, 8)),
         output: 4,
-        metric,
+        metric: metric_of(word_at(asked, 9)),
     }
 }
 
@@ -31,130 +41,109 @@ fn phase_of(word: u64) -> StopwatchPhase {
     }
 }
 
+fn name(phase: StopwatchPhase) -> &'static str {
+    match phase {
+        StopwatchPhase::Passive => "Passive",
+        StopwatchPhase::JobFetch => "JobFetch",
+    }
+}
+
 fn state_of(asked: &[u64]) -> StopwatchState {
-    let phase = phase_of(word_at(asked, 3));
     StopwatchState {
-        phase,
+        phase: phase_of(word_at(asked, 3)),
         timer: values::float(word_at(asked, 4)),
         held: word_at(asked, 5),
     }
 }
 
 fn say_state(rt: &impl Print, state: StopwatchState) -> io::Result<()> {
-    let phase = state.phase;
-    match phase {
-        StopwatchPhase::Passive => say::state(rt, say::PASSIVE, state.timer, state.held),
-        StopwatchPhase::JobFetch => say::state(rt, say::FETCHING, state.timer, state.held),
-    }
+    say::state(rt, name(state.phase), state.timer, state.held)
 }
 
 fn say_taken(rt: &impl Print, taken: StopwatchTaken) -> io::Result<()> {
-    let next = taken.next;
-    let answer = taken.answer;
-    say::taken(rt, answer)?;
-    say_state(rt, next)
+    say::taken(rt, taken.answer)?;
+    say_state(rt, taken.next)
 }
 
 fn say_gone(rt: &impl Print, gone: StopwatchGone) -> io::Result<()> {
-    let next = gone.next;
-    let answer = gone.answer;
-    match answer {
-        Named::Job(name) => say::named(rt, say::JOB, name)?,
-        Named::Nothing => say::text(rt, say::NOTHING)?,
+    match gone.answer {
+        Named::Job(name) => print!(rt; ": job {name}")?,
+        Named::Nothing => rt.print(": nothing")?,
         Named::Refused(why) => say::refusal(rt, why)?,
     }
-    say_state(rt, next)
+    say_state(rt, gone.next)
 }
 
-fn external(rt: &impl Print, what: u64, asked: &[u64], words: &mut [u64]) -> io::Result<()> {
+fn on(rt: &impl Print, event: Event, asked: &[u64], words: &mut [u64]) -> io::Result<()> {
     let state = state_of(asked);
     let row = row_of(asked);
     let clock = values::float(word_at(asked, 10));
-    let port = values::short(word_at(asked, 11));
-    let job = values::small(word_at(asked, 12));
-    if what == 12 {
-        say_taken(rt, state.external_rule(row, clock, port, job, words))
-    } else {
-        say_taken(rt, state.external(row, clock, port, job, words))
-    }
-}
-
-fn internal(rt: &impl Print, what: u64, asked: &[u64], words: &[u64]) -> io::Result<()> {
-    let state = state_of(asked);
-    let row = row_of(asked);
-    if what == 13 {
-        say_gone(rt, state.internal_rule(row, words))
-    } else {
-        say_gone(rt, state.internal(row, words))
+    let port = values::port(word_at(asked, 11));
+    let job = values::job(word_at(asked, 12));
+    match event {
+        Event::External => say_taken(rt, state.external(row, clock, port, job, words)),
+        Event::Internal => say_gone(rt, state.internal(row, words)),
+        Event::ExternalRule => say_taken(rt, state.external_rule(row, clock, port, job, words)),
+        Event::InternalRule => say_gone(rt, state.internal_rule(row, words)),
     }
 }
 
 fn mean(rt: &impl Print, asked: &[u64], words: &[u64]) -> io::Result<()> {
     match marks::mean(words, word_at(asked, 3)) {
-        MeanOf::Mean(mean) => say::bits(rt, say::ANSWER, mean),
-        MeanOf::Nothing => say::text(rt, say::NONE),
-        MeanOf::CutShort => say::text(rt, say::CUT_SHORT),
+        MeanOf::Mean(mean) => {
+            let mean = times::bits_of(mean);
+            print!(rt; ": {mean:016x}")
+        }
+        MeanOf::Nothing => rt.print(": none"),
+        MeanOf::CutShort => rt.print(": cut short"),
     }
 }
 
 // The three words of a job.
-fn job(rt: &impl Print, asked: &[u64], words: &[u64]) -> io::Result<()> {
+fn read_job(rt: &impl Print, asked: &[u64], words: &[u64]) -> io::Result<()> {
     let k = word_at(asked, 3) as usize;
     if k < 64 {
-        say::named(rt, say::ANSWER, word_at(words, k))?;
-        say::text(rt, say::BLANK)?;
-        say::hex(rt, word_at(words, 64 + k))?;
-        say::text(rt, say::BLANK)?;
-        say::hex(rt, word_at(words, 128 + k))?;
+        let name = word_at(words, k);
+        let start = word_at(words, 64 + k);
+        let stop = word_at(words, 128 + k);
+        print!(rt; ": {name} {start:016x} {stop:016x}")?;
     }
     Ok(())
+}
+
+fn read_word(rt: &impl Print, asked: &[u64], words: &[u64]) -> io::Result<()> {
+    let word = word_at(words, word_at(asked, 3) as usize);
+    print!(rt; ": {word}")
 }
 
 fn say_changes(rt: &impl Print, before: &[u64], after: &[u64]) -> io::Result<()> {
-    say::named(rt, say::CHANGED, sheet::changes(before, after))
+    let count = sheet::changes(before, after);
+    print!(rt; ", words changed: {count}")
 }
 
-// How many words are not 0.
-fn set(rt: &impl Print, words: &[u64]) -> io::Result<()> {
-    let none = [0u64; 0];
-    say_changes(rt, words, &none)
-}
-
-fn on_words(rt: &impl Print, what: u64, asked: &[u64], words: &mut [u64]) -> io::Result<()> {
+fn on_words(rt: &impl Print, what: Use, asked: &[u64], words: &mut [u64]) -> io::Result<()> {
     match what {
-        11 | 13 => internal(rt, what, asked, words),
-        15 => set(rt, words),
-        16 => mean(rt, asked, words),
-        17 => job(rt, asked, words),
-        18 => say::named(rt, say::ANSWER, word_at(words, word_at(asked, 3) as usize)),
-        _ => external(rt, what, asked, words),
+        Use::Event(event) => on(rt, event, asked, words),
+        Use::CountSet => say_changes(rt, words, &[]),
+        Use::Mean => mean(rt, asked, words),
+        Use::ReadJob => read_job(rt, asked, words),
+        Use::ReadWord => read_word(rt, asked, words),
     }
 }
 
-// The words that are lent.
-fn lend(rt: &impl Print, what: u64, asked: &[u64], words: &mut [u64]) -> io::Result<()> {
+// The words that are lent stand from one place to before another.
+pub(crate) fn run(rt: &impl Print, what: Use, asked: &[u64], sheet: &mut Sheet) -> io::Result<()> {
     let from = word_at(asked, 1) as usize;
     let end = word_at(asked, 2) as usize;
-    if words.len() < end {
-        return Ok(());
-    }
-    if end < from {
-        return Ok(());
-    }
-    on_words(rt, what, asked, &mut words[from..end])
-}
-
-// After 14, as 10 is, it says how many words were changed.
-pub(crate) fn run(
-    rt: &impl Print,
-    what: u64,
-    asked: &[u64],
-    words: &mut [u64; 4096],
-) -> io::Result<()> {
-    let before = *words;
-    lend(rt, what, asked, words)?;
-    if what == 14 {
-        say_changes(rt, &before, words)?;
+    if from <= end && end <= sheet.len() {
+        on_words(rt, what, asked, &mut sheet[from..end])?;
     }
     Ok(())
+}
+
+// An external event, and how many words it changes.
+pub(crate) fn changes(rt: &impl Print, asked: &[u64], sheet: &mut Sheet) -> io::Result<()> {
+    let before = *sheet;
+    run(rt, Use::Event(Event::External), asked, sheet)?;
+    say_changes(rt, &before, sheet)
 }

@@ -1,5 +1,5 @@
 -- What a row does to break each rule, in the words of the rules alone (rules/Layout, rules/Intake, rules/Decides). Definitions only. Assumes nothing.
-use Rattle.std.specs.Prelude.{ℕ, ◌≤◌, ◌<◌, ◌^◌, ◌≡◌, length, get_or, take, T, Option as Answer, None, Some}
+use Rattle.std.specs.Prelude.{Option, ℕ, ◌≤◌, ◌<◌, ◌^◌, ◌≡◌, length, get_or, take, T, None, Some}
 use mathlib.Core.List.{List, [], map, reverse_aux}
 use Rattle.times.specs.Time.{is_time}
 use Rattle.rules.specs.declared.Batcher.{Batcher}
@@ -28,7 +28,7 @@ abbrev pub Wide : List ℕ → ℕ → Type 0
 Wide row c = 2 ^ 16 ≤ cell row c
 
 -- ---- 2: the row k of the models, with the words of each row, and the rows before it
-pub data ModelBreaks (line : ℕ → List ℕ) (earlier : List Row) (k : ℕ) : Answer Reason → Type 0 where
+pub data ModelBreaks (line : ℕ → List ℕ) (earlier : List Row) (k : ℕ) : Option Reason → Type 0 where
   -- "a row cut short"
   cut_short : (length (line k) ≡ model_width → ⊥) → ModelBreaks line earlier k (Some ModelCutShort)
   -- "its kind is none of the four"
@@ -56,12 +56,12 @@ pub data ModelBreaks (line : ℕ → List ℕ) (earlier : List Row) (k : ℕ) : 
   too-deep : kind_in (line k) ≡ Some coupled → deepest < depth_of earlier (parent_in (line k)) → ModelBreaks line earlier k (Some TooDeep)
 
 -- ---- 3: a connector, by its words
-pub data ConnectorBreaks (row : List ℕ) : Answer Reason → Type 0 where
+pub data ConnectorBreaks (row : List ℕ) : Option Reason → Type 0 where
   cut_short : (length row ≡ connector_width → ⊥) → ConnectorBreaks row (Some ConnectorCutShort)
   wide : {c : ℕ} → c < 4 → Wide row c → ConnectorBreaks row (Some (ConnectorWide c))
 
 -- ---- 3: a coupling, by the rows and its words: 0 is the owner's id, 2 to 5 are ids and ports, used by the kind or not
-pub data CouplingBreaks (rows : List Row) (row : List ℕ) : Answer Reason → Type 0 where
+pub data CouplingBreaks (rows : List Row) (row : List ℕ) : Option Reason → Type 0 where
   cut_short : (length row ≡ coupling_width → ⊥) → CouplingBreaks rows row (Some CouplingCutShort)
   unknown-kind : (1 ≤ cell row 1 → cell row 1 ≤ 3 → ⊥) → CouplingBreaks rows row (Some UnknownCoupling)
   wide-owner : Wide row 0 → CouplingBreaks rows row (Some (CouplingWide 0))
@@ -72,13 +72,13 @@ pub data CouplingBreaks (rows : List Row) (row : List ℕ) : Answer Reason → T
   no-component : {owner sp target tp unused : ℕ} → coupling_in row ≡ Some (external_input owner sp target tp, unused) → (ComponentOf rows owner target → ⊥) → CouplingBreaks rows row (Some NoComponent)
 
 -- ---- a table: the reason is broken by the row that the verdict names, or by the part that is too large
-pub data Breaks (models connectors couplings : List ℕ) : Verdict → Answer Reason → Type 0 where
+pub data Breaks (models connectors couplings : List ℕ) : Verdict → Option Reason → Type 0 where
   -- 1: "a table has too many rows, one cut short counted"
   many-models : most_rows < length (rows_of model_width models) → Breaks models connectors couplings too_large (Some ManyModels)
   many-connectors : most_connectors < length (rows_of connector_width connectors) → Breaks models connectors couplings too_large (Some ManyConnectors)
   many-couplings : most_couplings < length (rows_of coupling_width couplings) → Breaks models connectors couplings too_large (Some ManyCouplings)
-  model : {k : ℕ} {r : Answer Reason} → ModelBreaks (line_of model_width models) (rows_before models k) k r → Breaks models connectors couplings (bad_row k) r
-  connector : {k : ℕ} {r : Answer Reason} → ConnectorBreaks (line_of connector_width connectors k) r → Breaks models connectors couplings (bad_connector k) r
-  coupling : {k : ℕ} {r : Answer Reason} → CouplingBreaks (rows_in models) (line_of coupling_width couplings k) r → Breaks models connectors couplings (bad_coupling k) r
+  model : {k : ℕ} {r : Option Reason} → ModelBreaks (line_of model_width models) (rows_before models k) k r → Breaks models connectors couplings (bad_row k) r
+  connector : {k : ℕ} {r : Option Reason} → ConnectorBreaks (line_of connector_width connectors k) r → Breaks models connectors couplings (bad_connector k) r
+  coupling : {k : ℕ} {r : Option Reason} → CouplingBreaks (rows_in models) (line_of coupling_width couplings k) r → Breaks models connectors couplings (bad_coupling k) r
   -- nothing is broken exactly where the table passes
   fine : {t : Table} → Breaks models connectors couplings (passed t) None

@@ -1,5 +1,5 @@
 -- The smallest table for each reason, computed, with one beside it that passes where a limit is met; and the first of several. Assumes nothing.
-use Rattle.std.specs.Prelude.{ℕ, ◌+◌, ◌^◌, ◌≡◌, refl, List, [], ◌∷◌, ◌++◌, replicate, Option as Answer, None, Some}
+use Rattle.std.specs.Prelude.{Option, ℕ, ◌+◌, ◌^◌, ◌≡◌, refl, List, [], ◌∷◌, ◌++◌, replicate, None, Some}
 use Rattle.std.specs.Float.Ieee.{of_bits, fits, le}
 use Rattle.times.specs.Time.{is_time}
 use Rattle.rules.specs.Intake.{intake}
@@ -28,11 +28,11 @@ abbrev within : ℕ → ℕ → ℕ → List ℕ
 within parent id kind = id ∷ kind ∷ 1 ∷ parent ∷ 1 ∷ 0 ∷ 0 ∷ 2 ∷ 0 ∷ 0 ∷ []
 
 -- of these models alone
-abbrev of_models : List ℕ → Answer Reason
+abbrev of_models : List ℕ → Option Reason
 of_models models = reason_of models [] []
 
 -- of a coupling, where 1 is a Coupled with the component 2, and 3 stands alone
-abbrev of_coupling : List ℕ → Answer Reason
+abbrev of_coupling : List ℕ → Option Reason
 of_coupling = reason_of (coupled 1 ++ within 1 2 1 ++ processor 3) []
 
 -- four Coupleds, each in the one before

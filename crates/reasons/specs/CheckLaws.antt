@@ -1,5 +1,5 @@
 -- Rules looked at one after the other: the reason that is named is one of a rule that is broken, or all are kept. Assumes nothing.
-use Rattle.std.specs.Prelude.{ℕ, zero, suc, ◌+◌, ◌≤◌, ◌<◌, ◌^◌, ◌≡◌, refl, Bool, true, false, List, [], ◌∷◌, if◌then◌else◌, Option as Answer, Some}
+use Rattle.std.specs.Prelude.{Option, ℕ, zero, suc, ◌+◌, ◌≤◌, ◌<◌, ◌^◌, ◌≡◌, refl, Bool, true, false, List, [], ◌∷◌, if◌then◌else◌, Some}
 use Rattle.std.proofs.Common.{arith, ltb-false}
 use Rattle.rules.specs.Layout.{cell}
 use Rattle.rules.specs.Ends.{All, nil, ◌&◌}
@@ -8,14 +8,14 @@ use Rattle.reasons.specs.Checks.{Check, first_broken, widths}
 use Rattle.reasons.specs.Breaks.{Wide}
 
 -- where the rule is broken, P holds of its reason
-abbrev pub Fails : (Answer Reason → Type 0) → Check → Type 0
+abbrev pub Fails : (Option Reason → Type 0) → Check → Type 0
 Fails P c = c.kept ≡ false → P (Some c.reason)
 
 abbrev pub Kept : Check → Type 0
 Kept c = c.kept ≡ true
 
-module _ (P : Answer Reason → Type 0) where
-  pub named : (cs : List Check) (rest : Answer Reason) → All (Fails P) cs → (All Kept cs → P rest) → P (first_broken cs rest)
+module _ (P : Option Reason → Type 0) where
+  pub named : (cs : List Check) (rest : Option Reason) → All (Fails P) cs → (All Kept cs → P rest) → P (first_broken cs rest)
   named [] rest nil f = f nil
   named (c ∷ cs) rest (h & p) f = go c.kept refl (named cs rest p)
     where

@@ -1,5 +1,5 @@
 -- Rules looked at one after the other, and the reason of the first that is broken. Assumes nothing.
-use Rattle.std.specs.Prelude.{ℕ, Bool, not, List, [], ◌∷◌, map, if◌then◌else◌, Option as Answer, Some}
+use Rattle.std.specs.Prelude.{Option, ℕ, Bool, not, List, [], ◌∷◌, map, if◌then◌else◌, Some}
 use Rattle.rules.specs.Sizes.{is_port}
 use Rattle.rules.specs.Base.{from}
 use Rattle.rules.specs.Layout.{cell}
@@ -16,7 +16,7 @@ abbrev pub ◌or◌ : Bool → Reason → Check
 kept or reason = record { kept = kept; reason = reason }
 
 -- the reason of the first that is broken, or what is said of the rest
-abbrev pub first_broken : List Check → Answer Reason → Answer Reason
+abbrev pub first_broken : List Check → Option Reason → Option Reason
 first_broken [] rest = rest
 first_broken (c ∷ cs) rest = if c.kept then first_broken cs rest else Some c.reason
 
@@ -25,5 +25,5 @@ abbrev pub widths : (ℕ → Reason) → List ℕ → ℕ → ℕ → List Check
 widths wide row c n = map (λ k. is_port (cell row k) or wide k) (from c n)
 
 -- the first of them that is not
-abbrev pub first_wide : List ℕ → ℕ → ℕ → Answer ℕ
+abbrev pub first_wide : List ℕ → ℕ → ℕ → Option ℕ
 first_wide row c n = first_from (λ k. not (is_port (cell row k))) c n

@@ -1,5 +1,5 @@
 -- A connector and a coupling that intake refuses break the rule that is named. Assumes nothing.
-use Rattle.std.specs.Prelude.{ℕ, ◌/◌, ◌^◌, ◌≡◌, refl, Bool, true, false, ◌&&◌, List, length, T, eqb, if◌then◌else◌, Option as Answer, None, Some}
+use Rattle.std.specs.Prelude.{Option, ℕ, ◌/◌, ◌^◌, ◌≡◌, refl, Bool, true, false, ◌&&◌, List, length, T, eqb, if◌then◌else◌, None, Some}
 use Rattle.std.proofs.Common.{sym, ◌∙◌, subst, arith}
 use Rattle.std.proofs.lemmas.Bool.{false≢true}
 use borrow.Author.Tests.{leb-false, ltb-false, eqb-true, eqb-false}
@@ -34,7 +34,7 @@ module _ (row : List ℕ) (bad : connector_keeps row ≡ false) where
 
 -- ---- a coupling, with the rows that tests of some row of the table give the same of
 module _ (models row : List ℕ) (rows : List Row) (same : (test : Row → Bool) → some_of test rows ≡ some_of test (all_in models)) (bad : coupling_keeps (all_in models) row ≡ false) where
-  abbrev P : Answer Reason → Type 0
+  abbrev P : Option Reason → Type 0
   P = CouplingBreaks rows row
 
   owner-found : is_coupled_id (all_in models) (cell row 0) ≡ coupled_before models (length models / model_width) (cell row 0)

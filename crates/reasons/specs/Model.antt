@@ -1,5 +1,5 @@
 -- A model row that intake refuses breaks the rule that is named: each test that fails breaks its rule, and where all pass the row would be kept. Assumes nothing.
-use Rattle.std.specs.Prelude.{ℕ, zero, suc, ◌/◌, ◌≤◌, ◌<◌, ◌^◌, ◌≡◌, Bool, List, length, if◌then◌else◌, None, Some, Option as Answer, Option}
+use Rattle.std.specs.Prelude.{ℕ, zero, suc, ◌/◌, ◌≤◌, ◌<◌, ◌^◌, ◌≡◌, Bool, List, length, if◌then◌else◌, None, Some, Option}
 use Rattle.std.proofs.Math.Path.{refl, ap, subst}
 use Rattle.std.proofs.Common.{sym, ◌∙◌}
 use Rattle.std.proofs.Math.Bool.{true, false, not}
@@ -90,7 +90,7 @@ module _ (models : List ℕ) (k : ℕ) (begins : k ≤ length models / model_wid
   abbrev row : List ℕ
   row = row_of model_width models k
 
-  abbrev P : Answer Reason → Type 0
+  abbrev P : Option Reason → Type 0
   P = ModelBreaks (row_of model_width models) (earlier_in models k) k
 
   coupled-found : (p : ℕ) → parent_fits (earlier_in models k) (Some p) ≡ parent_stands models k (Some p)
@@ -115,7 +115,7 @@ module _ (models : List ℕ) (k : ℕ) (begins : k ≤ length models / model_wid
   id-breaks : not (is_found (taken_by models k (id_in models k))) ≡ false → P (Some (IdTaken (place_in (taken_by models k (id_in models k)))))
   id-breaks = go (taken_by models k (id_in models k)) refl
     where
-      go : (f : Answer ℕ) → taken_by models k (id_in models k) ≡ f → not (is_found f) ≡ false → P (Some (IdTaken (place_in f)))
+      go : (f : Option ℕ) → taken_by models k (id_in models k) ≡ f → not (is_found f) ≡ false → P (Some (IdTaken (place_in f)))
       go (Some j) e h =
           let first = first-at (matches (id_and (id_in models k) 0 (id_in models k)) 10 models) 0 k j (sym (searched models k (id_in models k) 0 (id_in models k) begins (omega arith)) ∙ e) in
           let both = same_test models k (id_in models k) 0 (id_in models k) begins (omega arith) j ∙ first.2 in

@@ -1,6 +1,6 @@
 -- No row of a table that passes intake breaks a rule that a reason names: what `Breaks` says are rules. Assumes nothing.
 use Prim.Native.Nat.{ℕ, zero, suc, ◌+◌, ◌≤◌, ◌<◌, ◌^◌}
-use Rattle.std.specs.Prelude.{◌≡◌, Bool, true, false, ◌&&◌, if◌then◌else◌, Option as Answer, Option, None, Some}
+use Rattle.std.specs.Prelude.{◌≡◌, Bool, true, false, ◌&&◌, if◌then◌else◌, Option, None, Some}
 use Rattle.std.proofs.Common.{sym, ap, ◌∙◌, subst, ne_eqb, leb→le, eqb→eq}
 use mathlib.Core.List.{List, [], ◌∷◌, map}
 use Rattle.std.proofs.Math.Decide.{dec_le}
@@ -57,11 +57,11 @@ module _ (models : List ℕ) (k : ℕ) (earlier : List Row) (before : earlier �
   some-kind : kind_in row ≡ None → ⊥
   some-kind e = no-some (sym (ap (Layout.row_in row) e) ∙ read)
 
-  model-keeps : {r : Answer Reason} → ModelBreaks (row_of model_width models) earlier k r → ⊥
+  model-keeps : {r : Option Reason} → ModelBreaks (row_of model_width models) earlier k r → ⊥
   unfolding row_fits cells_fit
   model-keeps b = go (parts (eqb (length row) model_width ∷ ltb (cell row 2) 8 ∷ cells_fit row 4 8 ∷ is_kind (kind_of (kind_in row)) ∷ []) fits) b
     where
-      go : {r : Answer Reason} → All T (eqb (length row) model_width ∷ ltb (cell row 2) 8 ∷ cells_fit row 4 8 ∷ is_kind (kind_of (kind_in row)) ∷ []) → ModelBreaks (row_of model_width models) earlier k r → ⊥
+      go : {r : Option Reason} → All T (eqb (length row) model_width ∷ ltb (cell row 2) 8 ∷ cells_fit row 4 8 ∷ is_kind (kind_of (kind_in row)) ∷ []) → ModelBreaks (row_of model_width models) earlier k r → ⊥
       go (w & g & p & t & nil) (ModelBreaks.cut_short n) = n (eqb→eq (length row) model_width w)
       go (w & g & p & t & nil) (ModelBreaks.unknown-kind n) = some-kind (no_kind row n)
       go (w & g & p & t & nil) (ModelBreaks.unknown-field l) = let m = ltb→lt (cell row 2) 8 g in omega arith
@@ -79,11 +79,11 @@ module _ (models : List ℕ) (k : ℕ) (earlier : List Row) (before : earlier �
       go s (ModelBreaks.too-deep e l) = let m = keeps.depth (ap kind_or e) in omega arith
 
 -- ---- a connector and a coupling that keep their rules
-connector-keeps : (row : List ℕ) → T (connector_keeps row) → {r : Answer Reason} → ConnectorBreaks row r → ⊥
+connector-keeps : (row : List ℕ) → T (connector_keeps row) → {r : Option Reason} → ConnectorBreaks row r → ⊥
 unfolding connector_keeps cells_fit
 connector-keeps row t b = go (parts (eqb (length row) connector_width ∷ cells_fit row 0 4 ∷ []) t) b
   where
-    go : {r : Answer Reason} → All T (eqb (length row) connector_width ∷ cells_fit row 0 4 ∷ []) → ConnectorBreaks row r → ⊥
+    go : {r : Option Reason} → All T (eqb (length row) connector_width ∷ cells_fit row 0 4 ∷ []) → ConnectorBreaks row r → ⊥
     go (w & p & nil) (ConnectorBreaks.cut_short n) = n (eqb→eq (length row) connector_width w)
     go (w & p & nil) (ConnectorBreaks.wide {c = c} a l) = let m = port-at row 0 4 p c (omega arith) (omega arith) in omega arith
 
@@ -111,7 +111,7 @@ module _ (models row : List ℕ) (rows : List Row) (same : (test : Row → Bool)
       go false false true e t = absurd (let f : inner_in row ≡ Table.external_input owner sp target tp = ap first e in let z : ◌≡◌ {A = ℕ} 0 1 = cc in omega arith)
       go false false false e t = absurd (no-some e)
 
-  coupling-keeps : T (coupling_keeps (all_in models) row) → {r : Answer Reason} → CouplingBreaks rows row r → ⊥
+  coupling-keeps : T (coupling_keeps (all_in models) row) → {r : Option Reason} → CouplingBreaks rows row r → ⊥
   unfolding coupling_keeps owner_fits cells_fit
   coupling-keeps t b = go (parts (eqb (length row) coupling_width ∷ cells_fit row 0 1 ∷ cells_fit row 2 6 ∷ owner_fits (all_in models) (cell row 0) (cell row 1) (cell row 4) ∷ []) t) b
     where
@@ -119,7 +119,7 @@ module _ (models row : List ℕ) (rows : List Row) (same : (test : Row → Bool)
           → All T (leb 1 (cell row 1) ∷ leb (cell row 1) 3 ∷ is_coupled_id (all_in models) (cell row 0) ∷ (if eqb (cell row 1) 1 then is_component_of (all_in models) (cell row 0) (cell row 4) else true) ∷ [])
       owned = parts _
 
-      with-owner : {r : Answer Reason} → All T (leb 1 (cell row 1) ∷ leb (cell row 1) 3 ∷ is_coupled_id (all_in models) (cell row 0) ∷ (if eqb (cell row 1) 1 then is_component_of (all_in models) (cell row 0) (cell row 4) else true) ∷ [])
+      with-owner : {r : Option Reason} → All T (leb 1 (cell row 1) ∷ leb (cell row 1) 3 ∷ is_coupled_id (all_in models) (cell row 0) ∷ (if eqb (cell row 1) 1 then is_component_of (all_in models) (cell row 0) (cell row 4) else true) ∷ [])
           → All T (eqb (length row) coupling_width ∷ cells_fit row 0 1 ∷ cells_fit row 2 6 ∷ []) → CouplingBreaks rows row r → ⊥
       with-owner s (w & o & p & nil) (CouplingBreaks.cut_short n) = n (eqb→eq (length row) coupling_width w)
       with-owner (a & b & o & t & nil) s (CouplingBreaks.unknown-kind n) = n (leb→le 1 (cell row 1) a) (leb→le (cell row 1) 3 b)
@@ -129,7 +129,7 @@ module _ (models row : List ℕ) (rows : List Row) (same : (test : Row → Bool)
       with-owner (a & b & o & t & nil) s (CouplingBreaks.no-component {owner = owner} {sp = sp} {target = target} {tp = tp} {unused = unused} e n) =
           n (target_keeps owner sp target tp unused e t)
 
-      go : {r : Answer Reason} → All T (eqb (length row) coupling_width ∷ cells_fit row 0 1 ∷ cells_fit row 2 6 ∷ owner_fits (all_in models) (cell row 0) (cell row 1) (cell row 4) ∷ []) → CouplingBreaks rows row r → ⊥
+      go : {r : Option Reason} → All T (eqb (length row) coupling_width ∷ cells_fit row 0 1 ∷ cells_fit row 2 6 ∷ owner_fits (all_in models) (cell row 0) (cell row 1) (cell row 4) ∷ []) → CouplingBreaks rows row r → ⊥
       go (w & o & p & f & nil) b = with-owner (owned f) (w & o & p & nil) b
 
 -- ---- a table that passed
@@ -137,7 +137,7 @@ module _ (models connectors couplings : List ℕ) (t : Table.Table) (e : intake 
   facts : Judged (lent models connectors couplings) (passed t)
   facts = (intake-exactly (lent models connectors couplings) (passed t)).0 e
 
-  pub no-model-breaks : (k : ℕ) → k < count_of model_width models → {r : Answer Reason} → ModelBreaks (line_of model_width models) (rows_before models k) k r → ⊥
+  pub no-model-breaks : (k : ℕ) → k < count_of model_width models → {r : Option Reason} → ModelBreaks (line_of model_width models) (rows_before models k) k r → ⊥
   unfolding lent row_keeps
   no-model-breaks k l {r} b =
       let rows = map model_row (rows_of model_width models) in
@@ -152,14 +152,14 @@ module _ (models connectors couplings : List ℕ) (t : Table.Table) (e : intake 
       lines : line_of model_width models ≡ row_of model_width models
       lines = λ i j. line-is model_width (omega arith) models j i
 
-  pub no-connector-breaks : (k : ℕ) → k < count_of connector_width connectors → {r : Answer Reason} → ConnectorBreaks (line_of connector_width connectors k) r → ⊥
+  pub no-connector-breaks : (k : ℕ) → k < count_of connector_width connectors → {r : Option Reason} → ConnectorBreaks (line_of connector_width connectors k) r → ⊥
   unfolding lent
   no-connector-breaks k l {r} b =
       connector-keeps (row_of connector_width connectors k)
       (subst T (sym (connector-passes models k connectors ((connectors-first (lent models connectors couplings)).0.1 facts.2) l)) tt)
       (subst (λ (row : List ℕ). ConnectorBreaks row r) (line-is connector_width (omega arith) connectors k) b)
 
-  pub no-coupling-breaks : (k : ℕ) → k < count_of coupling_width couplings → {r : Answer Reason} → CouplingBreaks (rows_in models) (line_of coupling_width couplings k) r → ⊥
+  pub no-coupling-breaks : (k : ℕ) → k < count_of coupling_width couplings → {r : Option Reason} → CouplingBreaks (rows_in models) (line_of coupling_width couplings k) r → ⊥
   unfolding lent
   no-coupling-breaks k l {r} b =
       let all = (rows-first (lent models connectors couplings)).0.1 facts.1 in

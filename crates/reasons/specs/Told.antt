@@ -1,6 +1,6 @@
 -- Of any lent table: the row that intake's verdict names breaks the rule that is named, and one is named exactly where the table is refused. Assumes nothing.
 use Prim.Native.Nat.{ℕ, ◌+◌, ◌*◌, ◌/◌, ◌≤◌, ◌<◌, ◌^◌}
-use Rattle.std.specs.Prelude.{◌≡◌, refl, ◌↔◌, get_or, T, Option as Answer, None, Some}
+use Rattle.std.specs.Prelude.{Option, ◌≡◌, refl, ◌↔◌, get_or, T, None, Some}
 use Rattle.std.proofs.Common.{sym, subst, leb-true, leb-false}
 use Rattle.std.proofs.Math.Logic.{inl, inr}
 use mathlib.Core.List.{List}
@@ -121,6 +121,6 @@ module _ (models connectors couplings : List ℕ) where
   unfolding reason_of
   always-a-reason words =
       let v = intake (lent models connectors couplings) in (
-        λ e. nothing-broken v (subst (λ (r : Answer Reason). Breaks models connectors couplings v r) e (never-made-up words)),
+        λ e. nothing-broken v (subst (λ (r : Option Reason). Breaks models connectors couplings v r) e (never-made-up words)),
         λ t. no-reason v t,
       )
