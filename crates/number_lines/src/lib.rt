@@ -3,7 +3,7 @@
 
 ghost use Rattle.std.specs.Prelude.{◌≡◌, ◌-◌, ◌≤◌, length, drop};
 
-use bench_words::{Number, Span};
+use bench_words::Span;
 
 // The numbers that a line begins with, and what stands behind them.
 #[derive(Clone, Copy)]
@@ -21,14 +21,10 @@ fn next_word(line: &[u8], from: usize) -> Span
 }
 
 fn number(word: &[u8]) -> Option<u64> {
-    let number = if word.len() == 18 {
+    if word.len() == 18 {
         bench_words::time_of(word)
     } else {
         bench_words::number_of(word, u64::MAX)
-    };
-    match number {
-        Number::Is(number) => Some(number),
-        Number::Not => None,
     }
 }
 
