@@ -1,5 +1,5 @@
 -- The laws of the whole: the rows one after the other, the active messages, the table; and that all of these are what 20 asks of a lent state. Assumes nothing.
-use Rattle.std.specs.Prelude.{ℕ, suc, ◌+◌, ◌-◌, ◌*◌, ◌≤◌, ◌<◌, ◌^◌, ◌≡◌, Bool, true, false, List, map, length, get_or, take, drop, leb, None, Option, Some}
+use Rattle.std.specs.Prelude.{ℕ, suc, ◌+◌, ◌-◌, ◌*◌, ◌≤◌, ◌<◌, ◌^◌, ◌≡◌, Bool, true, false, List, map, length, get_or, take, drop, leb, None, Option, Some, Result, Ok, Err, ⊤}
 use Rattle.std.proofs.Math.Path.{refl, sym, ap, subst}
 use Rattle.std.proofs.Common.{◌∙◌, length-drop, take_all, get_or-drop}
 use native.Mathlib.Omega.{arith}
@@ -20,8 +20,8 @@ use Rattle.rules.specs.Ends.{all_map, every-all, one}
 use Rattle.rules.specs.Decides.{Decides, passes, tells, is_true, is_false, reads, ◌also◌, ◌and◌, alone, itself, at-most, same, every-decides, whole_table, intake-exactly, passes-decides, state-decides, message-decides, valid-decides}
 use Rattle.rules.specs.Depth.{passed-again}
 use Rattle.words.specs.Lists.{part_length}
-use Rattle.table.specs.declared.Verdict.{Verdict}
-use Rattle.table.specs.declared.Verdict.TheVariants as verdict
+use Rattle.table.specs.declared.BadTable.{BadTable}
+use Rattle.table.specs.declared.BadTable.TheVariants.{TooLarge}
 use Rattle.table.specs.Verdicts.{verdict_of}
 use Rattle.table.specs.Judged.{large-models, large-connectors, large-couplings}
 use Rattle.memory.specs.Words.{word_at, head_at, phase_in, timer_in, held_in, begin_in, width_of, own_in}
@@ -204,12 +204,9 @@ message-rest m a b c d e =
     (λ h. let l = (tells (message-decides m) h).1.1.1.1.1 in passes (at-most m.content 4294967295) (omega arith))
 
 -- ---- the table
-abbrev passing : Verdict → Bool
-passing verdict.TooLarge = false
-passing (verdict.BadRow k) = false
-passing (verdict.BadConnector k) = false
-passing (verdict.BadCoupling k) = false
-passing verdict.Passed = true
+abbrev passing : Result ⊤ BadTable → Bool
+passing (Err bad) = false
+passing (Ok u) = true
 
 passing-is : (v : Intake.Verdict) → is_passed v ≡ passing (verdict_of v)
 passing-is Intake.too_large = refl
@@ -234,7 +231,7 @@ module _ (state : List ℕ) where
   table-cut l = sym (is_false table-decides (λ h. let m = h.0 in omega arith))
 
   -- more rows than there may be
-  large : (needed ≤ length state → verdict_of (intake (posted_in state)) ≡ verdict.TooLarge) → false ≡ table_fits state
+  large : (needed ≤ length state → verdict_of (intake (posted_in state)) ≡ Err TooLarge) → false ≡ table_fits state
   large f = sym (is_false table-decides (λ h. subst T (passing-is (intake (posted_in state)) ∙ ap passing (f h.0)) h.1))
 
   module _ (room : needed ≤ length state) where
@@ -258,7 +255,7 @@ module _ (state : List ℕ) where
       large (λ r. let m = models-words r in let n = connectors-words r in let o = couplings-words r in large-couplings (models_in state) (connectors_in state) (couplings_in state) (omega arith) (omega arith) (omega arith))
 
   -- what intake answers for the parts as they are lent
-  pub table-says : tail_at state + count_in 0 state * 196 + 1539 ≤ length state → (told known : Verdict) → told ≡ verdict_of (intake (lent (lent_models state) (lent_connectors state) (lent_couplings state))) → told ≡ known → passing known ≡ table_fits state
+  pub table-says : tail_at state + count_in 0 state * 196 + 1539 ≤ length state → (told known : Result ⊤ BadTable) → told ≡ verdict_of (intake (lent (lent_models state) (lent_connectors state) (lent_couplings state))) → told ≡ known → passing known ≡ table_fits state
   unfolding table_fits
   table-says l told known e f =
       let parts : lent (lent_models state) (lent_connectors state) (lent_couplings state) ≡ posted_in state = λ i. lent (models-part state i) (connectors-part state i) (couplings-part state i) in

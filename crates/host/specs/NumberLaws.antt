@@ -11,8 +11,8 @@ use Rattle.rules.specs.Intake as Intake
 use Rattle.rules.specs.Intake.{taken_in}
 use Rattle.rules.specs.Calls as Calls
 use Rattle.rules.specs.Calls.{Ran}
-use Rattle.table.specs.declared.Verdict.{Verdict}
-use Rattle.table.specs.declared.Verdict.TheVariants as verdict
+use Rattle.table.specs.declared.BadTable.{BadTable}
+use Rattle.table.specs.declared.BadTable.TheVariants as bad
 use Rattle.table.specs.Verdicts.{verdict_of}
 use Rattle.memory.specs.View.{working_number, batching_number}
 use Rattle.engine.specs.declared.Report.{Report}
@@ -38,19 +38,19 @@ answer-is (refused r) = refl
 answer-is (done a) = refl
 
 -- ---- intake: what was answered, and what it is known to be
-abbrev verdict_number : Verdict → ℕ
-verdict_number verdict.TooLarge = 1
-verdict_number (verdict.BadRow row) = 2
-verdict_number (verdict.BadConnector row) = 3
-verdict_number (verdict.BadCoupling row) = 3
-verdict_number verdict.Passed = 0
+abbrev verdict_number : Result ⊤ BadTable → ℕ
+verdict_number (Err bad.TooLarge) = 1
+verdict_number (Err (bad.Row row)) = 2
+verdict_number (Err (bad.Connector row)) = 3
+verdict_number (Err (bad.Coupling row)) = 3
+verdict_number (Ok tt) = 0
 
-abbrev verdict_words : ℕ → List ℕ → Verdict → List ℕ
-verdict_words omitted report verdict.TooLarge = reported 0 0 0 report
-verdict_words omitted report (verdict.BadRow row) = reported 1 row 0 report
-verdict_words omitted report (verdict.BadConnector row) = reported 2 row 0 report
-verdict_words omitted report (verdict.BadCoupling row) = reported 3 row 0 report
-verdict_words omitted report verdict.Passed = reported 0 0 omitted report
+abbrev verdict_words : ℕ → List ℕ → Result ⊤ BadTable → List ℕ
+verdict_words omitted report (Err bad.TooLarge) = reported 0 0 0 report
+verdict_words omitted report (Err (bad.Row row)) = reported 1 row 0 report
+verdict_words omitted report (Err (bad.Connector row)) = reported 2 row 0 report
+verdict_words omitted report (Err (bad.Coupling row)) = reported 3 row 0 report
+verdict_words omitted report (Ok tt) = reported 0 0 omitted report
 
 verdict-number : (v : Intake.Verdict) → verdict_number (verdict_of v) ≡ number_of (taken_in v)
 verdict-number Intake.too_large = refl
@@ -66,7 +66,7 @@ verdict-words omitted report (Intake.bad_connector row) = refl
 verdict-words omitted report (Intake.bad_coupling row) = refl
 verdict-words omitted report (Intake.passed t) = refl
 
-pub verdict-told : (omitted : ℕ) (report : List ℕ) (v : Intake.Verdict) (told known : Verdict) → told ≡ verdict_of v → told ≡ known
+pub verdict-told : (omitted : ℕ) (report : List ℕ) (v : Intake.Verdict) (told known : Result ⊤ BadTable) → told ≡ verdict_of v → told ≡ known
     → (verdict_number known ≡ number_of (taken_in v)) × (verdict_words omitted report known ≡ intake_said omitted v report)
 verdict-told omitted report v told known e f =
     (ap verdict_number (sym f ∙ e) ∙ verdict-number v, ap (verdict_words omitted report) (sym f ∙ e) ∙ verdict-words omitted report v)
@@ -80,29 +80,21 @@ module _ (r : Report) (ran : Ran) (before laid : List ℕ) (h : Reported r ran b
   run-words report = λ i. reported (h.steps i) (h.written i) (end_word (h.end i)) report
 
 -- ---- a status: its number, and the words after it
-abbrev status_number : Status → ℕ
-status_number (status.Processor phase) = 0
-status_number (status.Batcher phase) = 0
-status_number (status.Mean mean) = 0
-status_number status.NoMean = 0
-status_number (status.Parked count) = 0
-status_number (status.Refused r) = number r
+abbrev status_number : Result Status Refusal → ℕ
+status_number (Ok s) = 0
+status_number (Err r) = number r
 
-abbrev words_said : List ℕ → Status → List ℕ
-words_said report (status.Processor phase) = said 0 (working_number phase) report
-words_said report (status.Batcher phase) = said 1 (batching_number phase) report
-words_said report (status.Mean mean) = said 2 (to_bits binary64 mean) report
-words_said report status.NoMean = said 3 0 report
-words_said report (status.Parked count) = said 4 count report
-words_said report (status.Refused r) = report
+abbrev words_said : List ℕ → Result Status Refusal → List ℕ
+words_said report (Ok (status.Processor phase)) = said 0 (working_number phase) report
+words_said report (Ok (status.Batcher phase)) = said 1 (batching_number phase) report
+words_said report (Ok (status.Mean (Some mean))) = said 2 (to_bits binary64 mean) report
+words_said report (Ok (status.Mean None)) = said 3 0 report
+words_said report (Ok (status.Parked count)) = said 4 count report
+words_said report (Err r) = report
 
 status-number : (o : Outcome Calls.Status) → status_number (status_answered o) ≡ number_of o
 status-number (refused r) = refl
-status-number (done (Calls.OfProcessor phase)) = refl
-status-number (done (Calls.OfBatcher phase)) = refl
-status-number (done (Calls.Mean None)) = refl
-status-number (done (Calls.Mean (Some mean))) = refl
-status-number (done (Calls.ParkedCount count)) = refl
+status-number (done s) = refl
 
 status-words : (report : List ℕ) (o : Outcome Calls.Status) → words_said report (status_answered o) ≡ status_after report o
 status-words report (refused r) = refl
@@ -113,7 +105,7 @@ status-words report (done (Calls.Mean (Some mean))) = refl
 status-words report (done (Calls.ParkedCount count)) = refl
 
 -- what was answered, and what it is known to be
-pub status-told : (report : List ℕ) (o : Outcome Calls.Status) (told known : Status) → told ≡ status_answered o → told ≡ known → (status_number known ≡ number_of o) × (words_said report known ≡ status_after report o)
+pub status-told : (report : List ℕ) (o : Outcome Calls.Status) (told known : Result Status Refusal) → told ≡ status_answered o → told ≡ known → (status_number known ≡ number_of o) × (words_said report known ≡ status_after report o)
 status-told report o told known e f =
     (ap status_number (sym f ∙ e) ∙ status-number o, ap (words_said report) (sym f ∙ e) ∙ status-words report o)
 

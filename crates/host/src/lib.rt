@@ -219,20 +219,13 @@ pub fn jt_reset_global_time(state: &mut [u64]) -> u32
 fn processor_number(phase: ProcessorPhase) -> u64
     ensures { result ≡ working_number phase }
 {
-    match phase {
-        ProcessorPhase::Passive => 0,
-        ProcessorPhase::Active => 1,
-    }
+    phase as u64
 }
 
 fn batcher_number(phase: BatcherPhase) -> u64
     ensures { result ≡ batching_number phase }
 {
-    match phase {
-        BatcherPhase::Passive => 0,
-        BatcherPhase::Batching => 1,
-        BatcherPhase::Release => 2,
-    }
+    phase as u64
 }
 
 // What a status is, and its value.
@@ -251,12 +244,12 @@ pub fn jt_get_status(state: &[u64], id: u16, report: &mut [u64; 2]) -> u32
     ensures tells { report.new ≡ status_after report.old (call_in (Calls.get_status id) state.now) }
 {
     match simulation::get_status(state, id) {
-        Status::Processor(phase) => say(report, 0, processor_number(phase)),
-        Status::Batcher(phase) => say(report, 1, batcher_number(phase)),
-        Status::Mean(mean) => say(report, 2, times::bits_of(mean)),
-        Status::NoMean => say(report, 3, 0),
-        Status::Parked(count) => say(report, 4, count),
-        Status::Refused(refusal) => rules::number(refusal),
+        Ok(Status::Processor(phase)) => say(report, 0, processor_number(phase)),
+        Ok(Status::Batcher(phase)) => say(report, 1, batcher_number(phase)),
+        Ok(Status::Mean(Some(mean))) => say(report, 2, times::bits_of(mean)),
+        Ok(Status::Mean(None)) => say(report, 3, 0),
+        Ok(Status::Parked(count)) => say(report, 4, count),
+        Err(refusal) => rules::number(refusal),
     }
 }
 

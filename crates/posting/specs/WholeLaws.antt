@@ -22,9 +22,8 @@ use Rattle.rules.specs.Layout.{model_width, connector_width, coupling_width, len
 use Rattle.rules.specs.Simulation.{begun}
 use Rattle.rules.specs.Calls.{post}
 use Rattle.words.specs.Lists.{part_length}
-use Rattle.table.specs.declared.Verdict.{Verdict}
-use Rattle.table.specs.declared.Verdict.TheVariants as verdict
-use Rattle.table.specs.Verdicts.{verdict_of}
+use Rattle.table.specs.declared.BadTable.{BadTable}
+use Rattle.table.specs.Verdicts.{verdict_of, refusal_of}
 use Rattle.table.specs.Passed.{models-long, connectors-long, couplings-long, sizes}
 use Rattle.words.specs.Laying.{zeros-long}
 use Rattle.memory.specs.Words.{head_at, word_at, place_in}
@@ -127,12 +126,9 @@ module _ (models connectors couplings : List ℕ) where
         omega arith
 
 -- ---- intake, as an answer
-abbrev answer_for : Verdict → Result ⊤ Refusal
-answer_for verdict.TooLarge = Err TooLarge
-answer_for (verdict.BadRow k) = Err BadRow
-answer_for (verdict.BadConnector k) = Err BadCoupling
-answer_for (verdict.BadCoupling k) = Err BadCoupling
-answer_for verdict.Passed = Ok tt
+abbrev answer_for : Result ⊤ BadTable → Result ⊤ Refusal
+answer_for (Err bad) = Err (refusal_of bad)
+answer_for (Ok u) = Ok tt
 
 answer-for : (v : Intake.Verdict) → answer_for (verdict_of v) ≡ answered (taken_in v)
 answer-for Intake.too_large = refl
@@ -141,7 +137,7 @@ answer-for (Intake.bad_connector k) = refl
 answer-for (Intake.bad_coupling k) = refl
 answer-for (passed t) = refl
 
-pub answer-read : (v : Intake.Verdict) (read known : Verdict) → read ≡ verdict_of v → read ≡ known → answer_for known ≡ answered (taken_in v)
+pub answer-read : (v : Intake.Verdict) (read known : Result ⊤ BadTable) → read ≡ verdict_of v → read ≡ known → answer_for known ≡ answered (taken_in v)
 answer-read v read known e f = ap answer_for (sym f ∙ e) ∙ answer-for v
 
 -- what is not refused has passed

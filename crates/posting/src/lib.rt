@@ -13,7 +13,6 @@ ghost use Rattle.storing.specs.Lent.{answered, post_in, left_anew};
 ghost use Rattle.posting.specs.Laying.{laid, numbered, new_from, new_rows, widths, fresh_words, table_words, front_words, Passes, Room, Fits, renewed};
 
 use rules::Refusal;
-use table::BadTable;
 
 // Three words from `at` on.
 fn lay_three(state: &mut [u64], at: usize, first: u64, second: u64, third: u64)
@@ -150,12 +149,8 @@ fn lay(
 pub fn judged(models: &[u64], connectors: &[u64], couplings: &[u64]) -> Result<(), Refusal>
     ensures { result ≡ answered (taken_in (intake (lent models.now connectors.now couplings.now))) }
 {
-    match table::intake(models, connectors, couplings) {
-        Ok(()) => Ok(()),
-        Err(BadTable::TooLarge) => Err(Refusal::TooLarge),
-        Err(BadTable::Row(_)) => Err(Refusal::BadRow),
-        Err(BadTable::Connector(_) | BadTable::Coupling(_)) => Err(Refusal::BadCoupling),
-    }
+    table::intake(models, connectors, couplings)?;
+    Ok(())
 }
 
 // `post`: a new simulation of the table into the lent state. 20 where the buffer is too short for it, then table intake.
@@ -167,10 +162,7 @@ pub fn post(models: &[u64], connectors: &[u64], couplings: &[u64], state: &mut [
     if state.len() < needed {
         return Err(Refusal::BadState);
     }
-    match judged(models, connectors, couplings) {
-        Err(refusal) => return Err(refusal),
-        Ok(()) => {}
-    }
+    judged(models, connectors, couplings)?;
     lay(state, models, connectors, couplings, 0, 0, 0);
     Ok(())
 }

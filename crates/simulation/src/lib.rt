@@ -138,11 +138,11 @@ pub fn reset_global_time(state: &mut [u64]) -> Result<(), Refusal>
 }
 
 // The status of a model without parent: 20, 4, or the status.
-pub fn get_status(state: &[u64], id: u16) -> Status
+pub fn get_status(state: &[u64], id: u16) -> Result<Status, Refusal>
     ensures { result ≡ status_answered (call_in (Calls.get_status id) state.now) }
 {
     if !holding::is_state(state) {
-        return Status::Refused(Refusal::BadState);
+        return Err(Refusal::BadState);
     }
     asking::get_status(state, id)
 }

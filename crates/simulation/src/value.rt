@@ -158,7 +158,7 @@ impl Simulation {
     }
 
     // `get_status` by value: the same answer.
-    pub fn get_status(self, id: u16) -> Status
+    pub fn get_status(self, id: u16) -> Result<Status, Refusal>
         ensures { result ≡ status_answered (call_in (Calls.get_status id) self.words) }
     {
         let words = self.words;

@@ -7,11 +7,11 @@ ghost use Rattle.rules.specs.Intake as Intake;
 ghost use Rattle.words.specs.Search.{next_row};
 ghost use Rattle.table.specs.Searched.{id_and};
 ghost use Rattle.table.specs.Readers.{id_in, kind_of, parent_of, depth_in, row_of};
-ghost use Rattle.table.specs.Verdicts.{verdict_of};
+ghost use Rattle.table.specs.Verdicts.{verdict_of, refusal_of};
 ghost use Rattle.table.specs.Judging as Judging;
 ghost use Rattle.table.specs.Rising.{AtMost};
 
-use rules::{Batcher, Metric, Processor, Stopwatch};
+use rules::{Batcher, Metric, Processor, Refusal, Stopwatch};
 use words::Cell;
 
 // The words of a model row, of a connector and of a coupling.
@@ -51,6 +51,19 @@ pub enum BadTable {
     Row(usize),
     Connector(usize),
     Coupling(usize),
+}
+
+// 01's refusal of such a table.
+impl From<BadTable> for Refusal {
+    ghost from_gives = { λ bad refusal. refusal ≡ refusal_of bad };
+
+    fn from(bad: BadTable) -> Refusal {
+        match bad {
+            BadTable::TooLarge => Refusal::TooLarge,
+            BadTable::Row(_) => Refusal::BadRow,
+            BadTable::Connector(_) | BadTable::Coupling(_) => Refusal::BadCoupling,
+        }
+    }
 }
 
 // What a model row is, with what it says.

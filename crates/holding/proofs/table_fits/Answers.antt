@@ -21,23 +21,3 @@ returns-then-state-gt256-2 c =
 pub returns-then-state-tail : goal.returns-then-state-tail
 returns-then-state-tail c =
     table-cut c.args.state.now c.if-state-tail.true
-
-pub returns-in-Passed : goal.returns-in-Passed
-returns-in-Passed c =
-    table-says c.args.state.now c.if-state-tail.false c.intake.result _ c.intake.ensures c.in-Passed.is
-
-pub returns-in-TooLarge : goal.returns-in-TooLarge
-returns-in-TooLarge c =
-    table-says c.args.state.now c.if-state-tail.false c.intake.result _ c.intake.ensures c.in-TooLarge.is
-
-pub returns-in-BadRow : goal.returns-in-BadRow
-returns-in-BadRow c =
-    table-says c.args.state.now c.if-state-tail.false c.intake.result _ c.intake.ensures c.in-BadRow.is
-
-pub returns-in-BadConnector : goal.returns-in-BadConnector
-returns-in-BadConnector c =
-    table-says c.args.state.now c.if-state-tail.false c.intake.result _ c.intake.ensures c.in-BadConnector.is
-
-pub returns-in-BadCoupling : goal.returns-in-BadCoupling
-returns-in-BadCoupling c =
-    table-says c.args.state.now c.if-state-tail.false c.intake.result _ c.intake.ensures c.in-BadCoupling.is

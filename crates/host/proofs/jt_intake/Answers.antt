@@ -1,39 +1,40 @@
 -- `host::jt_intake` meets its contract, by intake's verdict. Assumes nothing.
+use Rattle.std.specs.Prelude.{Ok, Err}
 use Prim.Native.Nat.{ℕ}
 use mathlib.Core.Path.{ap, ◌∙◌}
 use Rattle.rules.specs.Intake.{intake}
 use Rattle.rules.specs.Layout.{lent, omitted_in}
-use Rattle.table.specs.declared.Verdict.TheVariants as verdict
+use Rattle.table.specs.declared.BadTable.TheVariants as bad
 use Rattle.host.specs.Numbers.{reported}
 use Rattle.host.specs.NumberLaws.{verdict-told}
 use Rattle.host.proofs.jt_intake.Goals as goal
 
-pub returns-in-TooLarge : goal.returns-in-TooLarge
-returns-in-TooLarge c =
+pub returns-in-Err-TooLarge : goal.returns-in-Err-TooLarge
+returns-in-Err-TooLarge c =
     let a = c.args in
-    let h = verdict-told (omitted_in a.models.now) a.report.now (intake (lent a.models.now a.connectors.now a.couplings.now)) c.intake.result verdict.TooLarge c.intake.ensures c.in-TooLarge.is in
+    let h = verdict-told (omitted_in a.models.now) a.report.now (intake (lent a.models.now a.connectors.now a.couplings.now)) c.intake.result (Err bad.TooLarge) c.intake.ensures c.in-Err-TooLarge.is in
     record { answers = c.place.ensures.answers ∙ h.0; tells = c.place.ensures.tells ∙ h.1 }
 
-pub returns-in-BadRow : goal.returns-in-BadRow
-returns-in-BadRow c =
+pub returns-in-Err-Row : goal.returns-in-Err-Row
+returns-in-Err-Row c =
     let a = c.args in
-    let h = verdict-told (omitted_in a.models.now) a.report.now (intake (lent a.models.now a.connectors.now a.couplings.now)) c.intake.result (verdict.BadRow c.in-BadRow.row) c.intake.ensures c.in-BadRow.is in
-    record { answers = c.place-in-BadRow.ensures.answers ∙ h.0; tells = c.place-in-BadRow.ensures.tells ∙ h.1 }
+    let h = verdict-told (omitted_in a.models.now) a.report.now (intake (lent a.models.now a.connectors.now a.couplings.now)) c.intake.result (Err (bad.Row c.in-Err-Row.row)) c.intake.ensures c.in-Err-Row.is in
+    record { answers = c.place-in-Err-Row.ensures.answers ∙ h.0; tells = c.place-in-Err-Row.ensures.tells ∙ h.1 }
 
-pub returns-in-BadConnector : goal.returns-in-BadConnector
-returns-in-BadConnector c =
+pub returns-in-Err-Connector : goal.returns-in-Err-Connector
+returns-in-Err-Connector c =
     let a = c.args in
-    let h = verdict-told (omitted_in a.models.now) a.report.now (intake (lent a.models.now a.connectors.now a.couplings.now)) c.intake.result (verdict.BadConnector c.in-BadConnector.row) c.intake.ensures c.in-BadConnector.is in
-    record { answers = c.place-in-BadConnector.ensures.answers ∙ h.0; tells = c.place-in-BadConnector.ensures.tells ∙ h.1 }
+    let h = verdict-told (omitted_in a.models.now) a.report.now (intake (lent a.models.now a.connectors.now a.couplings.now)) c.intake.result (Err (bad.Connector c.in-Err-Connector.row)) c.intake.ensures c.in-Err-Connector.is in
+    record { answers = c.place-in-Err-Connector.ensures.answers ∙ h.0; tells = c.place-in-Err-Connector.ensures.tells ∙ h.1 }
 
-pub returns-in-BadCoupling : goal.returns-in-BadCoupling
-returns-in-BadCoupling c =
+pub returns-in-Err-Coupling : goal.returns-in-Err-Coupling
+returns-in-Err-Coupling c =
     let a = c.args in
-    let h = verdict-told (omitted_in a.models.now) a.report.now (intake (lent a.models.now a.connectors.now a.couplings.now)) c.intake.result (verdict.BadCoupling c.in-BadCoupling.row) c.intake.ensures c.in-BadCoupling.is in
-    record { answers = c.place-in-BadCoupling.ensures.answers ∙ h.0; tells = c.place-in-BadCoupling.ensures.tells ∙ h.1 }
+    let h = verdict-told (omitted_in a.models.now) a.report.now (intake (lent a.models.now a.connectors.now a.couplings.now)) c.intake.result (Err (bad.Coupling c.in-Err-Coupling.row)) c.intake.ensures c.in-Err-Coupling.is in
+    record { answers = c.place-in-Err-Coupling.ensures.answers ∙ h.0; tells = c.place-in-Err-Coupling.ensures.tells ∙ h.1 }
 
-pub returns-in-Passed : goal.returns-in-Passed
-returns-in-Passed c =
+pub returns-in-Ok : goal.returns-in-Ok
+returns-in-Ok c =
     let a = c.args in
-    let h = verdict-told (omitted_in a.models.now) a.report.now (intake (lent a.models.now a.connectors.now a.couplings.now)) c.intake.result verdict.Passed c.intake.ensures c.in-Passed.is in
-    record { answers = c.place-in-Passed.ensures.answers ∙ h.0; tells = c.place-in-Passed.ensures.tells ∙ ap (λ (w : ℕ). reported 0 0 w a.report.now) c.omitted.ensures ∙ h.1 }
+    let h = verdict-told (omitted_in a.models.now) a.report.now (intake (lent a.models.now a.connectors.now a.couplings.now)) c.intake.result (Ok tt) c.intake.ensures c.in-Ok.is in
+    record { answers = c.place-in-Ok.ensures.answers ∙ h.0; tells = c.place-in-Ok.ensures.tells ∙ ap (λ (w : ℕ). reported 0 0 w a.report.now) c.omitted.ensures ∙ h.1 }
