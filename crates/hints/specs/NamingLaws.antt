@@ -1,5 +1,5 @@
 -- What the private functions of `hints` answer, and the searches that tell what an end names. Assumes nothing.
-use Rattle.std.specs.Prelude.{ℕ, ◌/◌, ◌≡◌, refl, Bool, true, false, ◌&&◌, List, [], ◌∷◌, map, length, eqb, if◌then◌else◌, None, Some}
+use Rattle.std.specs.Prelude.{ℕ, ◌/◌, ◌≡◌, refl, Bool, true, false, ◌&&◌, List, [], ◌∷◌, map, length, eqb, if◌then◌else◌, None, Some, Err, Option as Answer}
 use Rattle.std.proofs.Math.Path.{sym, ap}
 use Rattle.std.proofs.Common.{◌∙◌, arith}
 use Rattle.std.proofs.lemmas.Bool.{false≢true}
@@ -22,23 +22,20 @@ use Rattle.table.specs.Judging.{option_of, input_in, output_in, inner_in}
 use Rattle.table.specs.Passed.{coupling_at, coupling_of}
 use Rattle.hints.specs.declared.Side.{Side}
 use Rattle.hints.specs.declared.Side.TheVariants.{In, Out}
-use Rattle.hints.specs.declared.Known.TheVariants as known
-use Rattle.hints.specs.Naming.{of_port, port_from, ports_of, couplings_in, ports_in, known_by, rows_where, end_in}
+use Rattle.hints.specs.declared.BadEnd.TheVariants.{NoModel}
+use Rattle.hints.specs.Naming.{of_port, port_from, ports_of, ports_if, couplings_in, ports_in, known_by, rows_where, end_in}
 
 -- ---- the row that is named
 -- the parent is the one that is asked for
-abbrev pub is_parent_of : Option ℕ → Option ℕ → Bool
+abbrev pub is_parent_of : Answer ℕ → Option ℕ → Bool
 is_parent_of None parent = is_parentless parent
 is_parent_of (Some owner) parent = is_parent owner parent
 
-abbrev pub is_wanted : Option ℕ → Option ℕ → Bool
-is_wanted wanted parent = is_parent_of wanted (option_of parent)
-
-abbrev pub is_named : Option ℕ → List ℕ → ℕ → ℕ → Bool
+abbrev pub is_named : Answer ℕ → List ℕ → ℕ → ℕ → Bool
 is_named wanted models id k = eqb (id_in models k) id && is_parent_of wanted (parent_in (row_of model_width models k))
 
 -- a parent that was read
-pub parent-read : {p : Option ℕ} (o : Option ℕ) → p ≡ parent_of o → option_of p ≡ o
+pub parent-read : {p : Answer ℕ} (o : Option ℕ) → p ≡ parent_of o → option_of p ≡ o
 parent-read none e = ap option_of e
 parent-read (some id) e = ap option_of e
 
@@ -58,25 +55,25 @@ and_first : (a b : Bool) → a && b ≡ true → a ≡ true
 and_first true b e = refl
 and_first false b e = absurd (false≢true e)
 
-module _ (wanted : Option ℕ) (models couplings : List ℕ) (id port : ℕ) (side : Side) where
+module _ (wanted : Answer ℕ) (models couplings : List ℕ) (id port : ℕ) (side : Side) where
   abbrev rows : ℕ
   rows = length models / model_width
 
   named-are : those (λ k. eqb (id_in models k) id) (rows_where (is_parent_of wanted) models) ≡ those (is_named wanted models id) (from 0 rows)
   named-are = those-both (λ k. eqb (id_in models k) id) (λ k. is_parent_of wanted (parent_in (row_of model_width models k))) (from 0 rows)
 
-  pub end-nobody : first_from (is_named wanted models id) 0 rows ≡ None → known.NoModel ≡ end_in (is_parent_of wanted) models couplings id port side
+  pub end-nobody : first_from (is_named wanted models id) 0 rows ≡ None → Err NoModel ≡ end_in (is_parent_of wanted) models couplings id port side
   unfolding end_in
   end-nobody e = sym (ap (known_by (ports_in models couplings side) port) (named-are ∙ first-nothing (is_named wanted models id) 0 rows e))
 
   -- the row that is found has the id, so its ports are those of a model with it
-  pub end-at : (k : ℕ) → first_from (is_named wanted models id) 0 rows ≡ Some k → {kind : Kind} → kind ≡ kind_of (kind_in (row_of model_width models k)) → {b : Bool} → b ≡ member port (ports_of side (couplings_in couplings) id kind)
+  pub end-at : (k : ℕ) → first_from (is_named wanted models id) 0 rows ≡ Some k → {kind : Answer Kind} → kind ≡ kind_of (kind_in (row_of model_width models k)) → {b : Bool} → b ≡ member port (ports_if side (couplings_in couplings) id kind)
       → of_port b ≡ end_in (is_parent_of wanted) models couplings id port side
   unfolding end_in
   end-at k e {kind} g {b} h =
       let first = first-at (is_named wanted models id) 0 rows k e in
       let same : id_in models k ≡ id = eqb-true (id_in models k) id (and_first _ _ first.2) in
-      let ports : ports_of side (couplings_in couplings) id kind ≡ ports_in models couplings side k = λ i. ports_of side (couplings_in couplings) (sym same i) (g i) in
+      let ports : ports_if side (couplings_in couplings) id kind ≡ ports_in models couplings side k = λ i. ports_if side (couplings_in couplings) (sym same i) (g i) in
       ap of_port (h ∙ ap (member port) ports)
       ∙ sym (ap (known_by (ports_in models couplings side) port) (named-are ∙ first.3))
 
@@ -155,7 +152,7 @@ module _ (couplings : List ℕ) (owner port : ℕ) where
   ports-are Out = refl
 
   -- a search for the key finds a coupling exactly if the Coupled has the port
-  pub port-found : (side : Side) {f : Option ℕ} → f ≡ next_row (port_key side owner port) coupling_width 0 (length couplings / coupling_width) couplings → is_found f ≡ member port (ports_of side (couplings_in couplings) owner Coupled)
+  pub port-found : (side : Side) {f : Answer ℕ} → f ≡ next_row (port_key side owner port) coupling_width 0 (length couplings / coupling_width) couplings → is_found f ≡ member port (ports_of side (couplings_in couplings) owner Coupled)
   port-found side e =
       let n : ℕ = length couplings / coupling_width in
       ap is_found (e ∙ searched side) ∙ first_some (matches (port_key side owner port) coupling_width couplings) 0 n
