@@ -1,6 +1,6 @@
 -- What is not known takes nothing: a message to an end that names no model reaches nobody, and one to a port that is not there is refused with 5 or ignored (but a Batcher takes it). Assumes nothing.
 use Prim.Native.Nat.{ℕ, suc, ◌<◌}
-use Rattle.std.specs.Prelude.{◌≡◌, refl, ◌↔◌, Bool, true, false, List, [], ◌∷◌, ◌++◌, length, T, eqb, Float, if◌then◌else◌, Option, Some}
+use Rattle.std.specs.Prelude.{◌≡◌, refl, ◌↔◌, Bool, true, false, List, [], ◌∷◌, ◌++◌, length, T, eqb, Float, if◌then◌else◌, Ok, Err, Result, ⊤, Option, Some}
 use Rattle.std.proofs.Common.{sym, ap, ◌∙◌, inl, inr, arith}
 use Rattle.std.proofs.lemmas.Bool.{false≢true}
 use Rattle.rules.specs.declared.Refusal.{Refusal}
@@ -21,35 +21,36 @@ use Rattle.rules.specs.Depth.{Fine, all_in}
 use Rattle.rules.specs.Decides.{Decides, tells, passes, either, is_true, is_false, Any, here, there, same, ◌∈◌, member-decides, those-element, chosen-element, parentless-element, components-element, inputs-element}
 use Rattle.hints.specs.declared.Side.{Side}
 use Rattle.hints.specs.declared.Side.TheVariants as sides
-use Rattle.hints.specs.declared.Known.TheVariants as known
+use Rattle.hints.specs.declared.BadEnd.{BadEnd}
+use Rattle.hints.specs.declared.BadEnd.TheVariants.{NoModel, NoPort}
 use Rattle.hints.specs.Naming.{of_port, port_from, ports_at, known_by, end_among, root_end, component_end}
 
 -- ---- no model
-known-not : known.Known ≡ known.NoModel → ⊥
+known-not : ◌≡◌ {A = Result ⊤ BadEnd} (Ok tt) (Err NoModel) → ⊥
 known-not e = let z : ◌≡◌ {A = ℕ} 0 1 = cc in omega arith
 
-port-not : known.NoPort ≡ known.NoModel → ⊥
+port-not : ◌≡◌ {A = Result ⊤ BadEnd} (Err NoPort) (Err NoModel) → ⊥
 port-not e = let z : ◌≡◌ {A = ℕ} 0 1 = cc in omega arith
 
-some-model : (ports : ℕ → List ℕ) (port i : ℕ) (more : List ℕ) → known_by ports port (i ∷ more) ≡ known.NoModel → ⊥
+some-model : (ports : ℕ → List ℕ) (port i : ℕ) (more : List ℕ) → known_by ports port (i ∷ more) ≡ Err NoModel → ⊥
 some-model ports port i more = by (member port (ports i))
   where
-    by : (b : Bool) → of_port b ≡ known.NoModel → ⊥
+    by : (b : Bool) → of_port b ≡ Err NoModel → ⊥
     by true e = known-not e
     by false e = port-not e
 
 -- an end names no model exactly if no row of those has the id
-pub no-model : (t : Table) (rows : List ℕ) (id port : ℕ) (side : Side) → (end_among t rows id port side ≡ known.NoModel) ↔ ((i : ℕ) → i ∈ rows → id_at t i ≡ id → ⊥)
+pub no-model : (t : Table) (rows : List ℕ) (id port : ℕ) (side : Side) → (end_among t rows id port side ≡ Err NoModel) ↔ ((i : ℕ) → i ∈ rows → id_at t i ≡ id → ⊥)
 no-model t rows id port side = (λ e i at named. out (those (λ i. eqb (id_at t i) id) rows) e i ((element i).1 (at, named)), λ never. back (those (λ i. eqb (id_at t i) id) rows) (λ i at. let h = (element i).0 at in never i h.0 h.1))
   where
     element : (i : ℕ) → (i ∈ those (λ i. eqb (id_at t i) id) rows) ↔ ((i ∈ rows) × (id_at t i ≡ id))
     element i = those-element (λ i. same (id_at t i) id) rows i
 
-    out : (found : List ℕ) → known_by (ports_at t side) port found ≡ known.NoModel → (i : ℕ) → i ∈ found → ⊥
+    out : (found : List ℕ) → known_by (ports_at t side) port found ≡ Err NoModel → (i : ℕ) → i ∈ found → ⊥
     out [] e i at = passes (member-decides i []) at
     out (k ∷ more) e i at = some-model (ports_at t side) port k more e
 
-    back : (found : List ℕ) → ((i : ℕ) → i ∈ found → ⊥) → known_by (ports_at t side) port found ≡ known.NoModel
+    back : (found : List ℕ) → ((i : ℕ) → i ∈ found → ⊥) → known_by (ports_at t side) port found ≡ Err NoModel
     back [] never = refl
     back (k ∷ more) never = absurd (never k (here refl))
 
@@ -75,14 +76,14 @@ alike {S} f g (i ∷ is) agree s = (λ k. agree i (here refl) k s >>= each f is)
 
 module _ (t : Table) (services : List Float) where
   -- "their messages reach nobody": a message whose target names no model is as none
-  pub nobody-takes : (clock : Float) (before : List Message) (m : Message) (after : List Message) (w : World) → root_end t m.target_id m.target_port sides.In ≡ known.NoModel
+  pub nobody-takes : (clock : Float) (before : List Message) (m : Message) (after : List Message) (w : World) → root_end t m.target_id m.target_port sides.In ≡ Err NoModel
       → taken t services clock (before ++ m ∷ after) w ≡ taken t services clock (before ++ after) w
   nobody-takes clock before m after w e =
       alike _ _ (parentless t)
       (λ i at k s. each (λ (m : Message). external t services levels clock i m.target_port m.content) (left_out (λ (m : Message). eqb m.target_id (id_at t i)) before m after (is_false (same m.target_id (id_at t i)) (λ named. (no-model t (parentless t) m.target_id m.target_port sides.In).0 e i at (sym named))) k) s) w
 
   -- "those for no component are lost": a parked message whose component is none is as none
-  pub nobody-gets : (deeper : External t services) (i : ℕ) (before : List Parked) (m : Parked) (after : List Parked) (w : World) → component_end t (id_at t i) m.component m.port sides.In ≡ known.NoModel
+  pub nobody-gets : (deeper : External t services) (i : ℕ) (before : List Parked) (m : Parked) (after : List Parked) (w : World) → component_end t (id_at t i) m.component m.port sides.In ≡ Err NoModel
       → unpark t services deeper i (before ++ m ∷ after) w ≡ unpark t services deeper i (before ++ after) w
   nobody-gets deeper i before m after w e =
       alike _ _ (components t (id_at t i))
@@ -109,18 +110,18 @@ module _ (t : Table) (ok : Fine t) (port : ℕ) (side : Side) where
   component-meant owner i at = meant (is_parent owner) i ((components-element t owner i).0 at).0 at
 
   -- "a port that the model does not have"
-  told : (b : Bool) → (of_port b ≡ known.NoPort) ↔ (b ≡ false)
+  told : (b : Bool) → (of_port b ≡ Err NoPort) ↔ (b ≡ false)
   told true = (λ e. let z : ◌≡◌ {A = ℕ} 0 1 = cc in absurd (omega arith), λ e. absurd (false≢true (sym e)))
   told false = (λ e. refl, λ e. refl)
 
-  pub root-no-port : (i : ℕ) → i ∈ parentless t → (root_end t (id_at t i) port side ≡ known.NoPort) ↔ (member port (ports_at t side i) ≡ false)
+  pub root-no-port : (i : ℕ) → i ∈ parentless t → (root_end t (id_at t i) port side ≡ Err NoPort) ↔ (member port (ports_at t side i) ≡ false)
   root-no-port i at = rw (root-meant i at) (told (member port (ports_at t side i)))
 
-  pub component-no-port : (owner i : ℕ) → i ∈ components t owner → (component_end t owner (id_at t i) port side ≡ known.NoPort) ↔ (member port (ports_at t side i) ≡ false)
+  pub component-no-port : (owner i : ℕ) → i ∈ components t owner → (component_end t owner (id_at t i) port side ≡ Err NoPort) ↔ (member port (ports_at t side i) ≡ false)
   component-no-port owner i at = rw (component-meant owner i at) (told (member port (ports_at t side i)))
 
 -- 4: "status of an id not among the models without parent" is given exactly where a root's end names no model
-pub status-not-found : (sim : Simulation) → T (is_valid sim) → (id port : ℕ) (side : Side) → (get_status id sim ≡ refused ModelNotFound) ↔ (root_end sim.table id port side ≡ known.NoModel)
+pub status-not-found : (sim : Simulation) → T (is_valid sim) → (id port : ℕ) (side : Side) → (get_status id sim ≡ refused ModelNotFound) ↔ (root_end sim.table id port side ≡ Err NoModel)
 status-not-found sim valid id port side =
     let status = status-exactly sim id ModelNotFound in
     let end = no-model sim.table (parentless sim.table) id port side in (

@@ -1,5 +1,5 @@
 -- What the private functions of `hints` answer, and the searches that tell what an end names. Assumes nothing.
-use Rattle.std.specs.Prelude.{ℕ, ◌/◌, ◌≡◌, refl, Bool, true, false, ◌&&◌, List, [], ◌∷◌, map, length, eqb, if◌then◌else◌, None, Some, Option}
+use Rattle.std.specs.Prelude.{ℕ, ◌/◌, ◌≡◌, refl, Bool, true, false, ◌&&◌, List, [], ◌∷◌, map, length, eqb, if◌then◌else◌, None, Some, Err, Option}
 use Rattle.std.proofs.Math.Path.{sym, ap}
 use Rattle.std.proofs.Common.{◌∙◌, arith}
 use Rattle.std.proofs.lemmas.Bool.{false≢true}
@@ -21,17 +21,14 @@ use Rattle.table.specs.Judging.{option_of, input_in, output_in, inner_in}
 use Rattle.table.specs.Passed.{coupling_at, coupling_of}
 use Rattle.hints.specs.declared.Side.{Side}
 use Rattle.hints.specs.declared.Side.TheVariants.{In, Out}
-use Rattle.hints.specs.declared.Known.TheVariants as known
-use Rattle.hints.specs.Naming.{of_port, port_from, ports_of, couplings_in, ports_in, known_by, rows_where, end_in}
+use Rattle.hints.specs.declared.BadEnd.TheVariants.{NoModel}
+use Rattle.hints.specs.Naming.{of_port, port_from, ports_of, ports_if, couplings_in, ports_in, known_by, rows_where, end_in}
 
 -- ---- the row that is named
 -- the parent is the one that is asked for
 abbrev pub is_parent_of : Option ℕ → Option ℕ → Bool
 is_parent_of None parent = is_parentless parent
 is_parent_of (Some owner) parent = is_parent owner parent
-
-abbrev pub is_wanted : Option ℕ → Option ℕ → Bool
-is_wanted wanted parent = is_parent_of wanted (option_of parent)
 
 abbrev pub is_named : Option ℕ → List ℕ → ℕ → ℕ → Bool
 is_named wanted models id k = eqb (id_in models k) id && is_parent_of wanted (parent_in (row_of model_width models k))
@@ -64,18 +61,18 @@ module _ (wanted : Option ℕ) (models couplings : List ℕ) (id port : ℕ) (si
   named-are : those (λ k. eqb (id_in models k) id) (rows_where (is_parent_of wanted) models) ≡ those (is_named wanted models id) (from 0 rows)
   named-are = those-both (λ k. eqb (id_in models k) id) (λ k. is_parent_of wanted (parent_in (row_of model_width models k))) (from 0 rows)
 
-  pub end-nobody : first_from (is_named wanted models id) 0 rows ≡ None → known.NoModel ≡ end_in (is_parent_of wanted) models couplings id port side
+  pub end-nobody : first_from (is_named wanted models id) 0 rows ≡ None → Err NoModel ≡ end_in (is_parent_of wanted) models couplings id port side
   unfolding end_in
   end-nobody e = sym (ap (known_by (ports_in models couplings side) port) (named-are ∙ first-nothing (is_named wanted models id) 0 rows e))
 
   -- the row that is found has the id, so its ports are those of a model with it
-  pub end-at : (k : ℕ) → first_from (is_named wanted models id) 0 rows ≡ Some k → {kind : Kind} → kind ≡ kind_of (kind_in (row_of model_width models k)) → {b : Bool} → b ≡ member port (ports_of side (couplings_in couplings) id kind)
+  pub end-at : (k : ℕ) → first_from (is_named wanted models id) 0 rows ≡ Some k → {kind : Option Kind} → kind ≡ kind_of (kind_in (row_of model_width models k)) → {b : Bool} → b ≡ member port (ports_if side (couplings_in couplings) id kind)
       → of_port b ≡ end_in (is_parent_of wanted) models couplings id port side
   unfolding end_in
   end-at k e {kind} g {b} h =
       let first = first-at (is_named wanted models id) 0 rows k e in
       let same : id_in models k ≡ id = eqb-true (id_in models k) id (and_first _ _ first.2) in
-      let ports : ports_of side (couplings_in couplings) id kind ≡ ports_in models couplings side k = λ i. ports_of side (couplings_in couplings) (sym same i) (g i) in
+      let ports : ports_if side (couplings_in couplings) id kind ≡ ports_in models couplings side k = λ i. ports_if side (couplings_in couplings) (sym same i) (g i) in
       ap of_port (h ∙ ap (member port) ports)
       ∙ sym (ap (known_by (ports_in models couplings side) port) (named-are ∙ first.3))
 

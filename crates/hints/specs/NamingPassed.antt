@@ -11,7 +11,7 @@ use Rattle.rules.specs.Ends.{All, nil, ◌&◌, all-those}
 use Rattle.rules.specs.Depth.{fine, passed-again, all_in}
 use Rattle.table.specs.Passed.{coupling_at, models-long, couplings-long, id-read, parent-read, kind-named, couplings-read}
 use Rattle.hints.specs.declared.Side.{Side}
-use Rattle.hints.specs.Naming.{of_port, ports_of, known_by, ports_at, end_among, root_end, component_end, couplings_in, ports_in, end_in, root_end_in, component_end_in}
+use Rattle.hints.specs.Naming.{of_port, ports_if, known_by, ports_at, end_among, root_end, component_end, couplings_in, ports_in, end_in, root_end_in, component_end_in}
 
 -- ports that agree on these rows
 known_same : (f g : ℕ → List ℕ) (port : ℕ) {ks : List ℕ} → All (λ k. f k ≡ g k) ks → known_by f port ks ≡ known_by g port ks
@@ -30,7 +30,7 @@ module _ (models connectors couplings : List ℕ) (t : Table) (h : intake (lent 
 
   module _ (test : Option ℕ → Bool) (id port : ℕ) (side : Side) where
     ports-are : (k : ℕ) → k < length t.rows → ports_at t side k ≡ ports_in models couplings side k
-    ports-are k l = λ i. ports_of side (couplings-are i) (id-read models connectors couplings t h k i) (sym (kind-named models connectors couplings t h k l) i)
+    ports-are k l = λ i. ports_if side (couplings-are i) (id-read models connectors couplings t h k i) (sym (kind-named models connectors couplings t h k l) i)
 
     end_read : end_among t (those (λ i. test (row_at t i).parent) (from 0 (length t.rows))) id port side ≡ end_in test models couplings id port side
     unfolding end_in

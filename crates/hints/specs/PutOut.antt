@@ -1,6 +1,6 @@
 -- Nothing comes out of a model at a port that it does not have; so a connector or coupling whose source is not known carries nothing. Assumes nothing.
 use Prim.Native.Nat.{ℕ, zero, suc}
-use Rattle.std.specs.Prelude.{◌≡◌, refl, true, List, [], ◌∷◌, ◌++◌, map, Float}
+use Rattle.std.specs.Prelude.{◌≡◌, refl, true, List, [], ◌∷◌, ◌++◌, map, Float, Ok}
 use Rattle.std.proofs.Common.{sym, ap, ◌∙◌, subst}
 use Rattle.rules.specs.declared.Refusal.TheVariants.{NoMessageRoom}
 use Rattle.rules.specs.Sizes.{most_out}
@@ -15,7 +15,6 @@ use Rattle.rules.specs.Depth.{Fine}
 use Rattle.rules.specs.Decides.{is_true, here, there, same, ◌∈◌, member-decides, chosen-element, outputs-element, connected-element}
 use Rattle.table.specs.Readers.{named}
 use Rattle.hints.specs.declared.Side.TheVariants as sides
-use Rattle.hints.specs.declared.Known.TheVariants as known
 use Rattle.hints.specs.Naming.{port_from, ports_of, ports_at, root_end, component_end}
 use Rattle.hints.specs.Heard.{any-map, root-meant, component-meant}
 
@@ -85,12 +84,12 @@ module _ (t : Table) (services : List Float) where
     there-is = is_true (member-decides m.port (ports_at t sides.Out i)) (of-all (ends-done (comes-out depth clock i w) e) at)
 
     -- of a message out, the end that it comes from is known
-    pub root-out : i ∈ parentless t → root_end t (id_at t i) m.port sides.Out ≡ known.Known
+    pub root-out : i ∈ parentless t → root_end t (id_at t i) m.port sides.Out ≡ Ok tt
     root-out root = root-meant t ok m.port sides.Out i root ∙ rw there-is
 
-    pub component-out : (owner : ℕ) → i ∈ components t owner → component_end t owner (id_at t i) m.port sides.Out ≡ known.Known
+    pub component-out : (owner : ℕ) → i ∈ components t owner → component_end t owner (id_at t i) m.port sides.Out ≡ Ok tt
     component-out owner inside = component-meant t ok m.port sides.Out owner i inside ∙ rw there-is
 
     -- so is the source of each connector that it goes along
-    pub connector-out : i ∈ parentless t → (c : Connector) → c ∈ connected t (id_at t i) m.port → root_end t c.source c.source_port sides.Out ≡ known.Known
+    pub connector-out : i ∈ parentless t → (c : Connector) → c ∈ connected t (id_at t i) m.port → root_end t c.source c.source_port sides.Out ≡ Ok tt
     connector-out root c along = let same = ((connected-element t (id_at t i) m.port c).0 along).1 in (λ k. root_end t (same.0 k) (same.1 k) sides.Out) ∙ root-out root

@@ -6,65 +6,42 @@ ghost use Rattle.std.specs.Prelude.{◌≡◌, [], ◌∷◌, ◌/◌, length};
 ghost use Rattle.rules.specs.Valid.{member};
 ghost use Rattle.words.specs.Search.{first_from};
 ghost use Rattle.table.specs.declared.Kind.TheVariants.{Coupled};
-ghost use Rattle.hints.specs.declared.Side.TheVariants.{In, Out};
 ghost use Rattle.hints.specs.Naming.{ports_of, couplings_in, end_in, root_end_in, component_end_in};
-ghost use Rattle.hints.specs.NamingLaws.{is_named, is_parent_of, is_wanted, port_key};
+ghost use Rattle.hints.specs.NamingLaws.{is_named, is_parent_of, port_key};
 
-use table::Kind;
+use table::{COUPLING_WIDTH, EXTERNAL_INPUT, EXTERNAL_OUTPUT, Kind, MODEL_WIDTH};
 use words::{Cell, Key};
 
 // A port that takes messages, or one that puts them out.
-#[derive(Clone, Copy)]
+#[derive(Clone, Copy, Debug, PartialEq, Eq)]
 pub enum Side {
     In,
     Out,
 }
 
-// What an end names: a port that is there, no model, or no port of the model.
-#[derive(Clone, Copy)]
-pub enum Known {
-    Known,
+// An end that names no model, or no port of the model.
+#[derive(Clone, Copy, Debug, PartialEq, Eq)]
+pub enum BadEnd {
     NoModel,
     NoPort,
 }
 
-// Whether a row's parent is the one that is asked for, or it has none where none is.
-fn is_wanted(parent: Option<u64>, wanted: Option<u64>) -> bool
-    ensures { result ≡ is_wanted wanted parent }
-{
-    match wanted {
-        None => match parent {
-            None => true,
-            Some(_) => false,
-        },
-        Some(owner) => match parent {
-            None => false,
-            Some(id) => id == owner,
-        },
-    }
-}
-
-// Whether a row has the id, and the parent that is asked for.
+// Whether a row has the id, and the parent that is asked for, or none where none is.
 fn is_named(models: &[u64], row: usize, id: u64, wanted: Option<u64>) -> bool
     ensures { result ≡ is_named wanted models.now id row }
 {
-    if table::id_at(models, row) != id {
-        return false;
-    }
-    is_wanted(table::parent_at(models, row), wanted)
+    table::id_at(models, row) == id && table::parent_at(models, row) == wanted
 }
 
 // The first row that has the id, and the parent that is asked for.
+#[tactic(auto, using(crate::proofs::Ends::steps))]
 fn row_named(models: &[u64], id: u64, wanted: Option<u64>) -> Option<usize>
     ensures { result ≡ first_from (is_named wanted models.now id) 0 (length models.now / 10) }
 {
-    let end = models.len() / 10;
-    let mut row: usize = 0;
-    while row < end {
+    for row in 0..models.len() / MODEL_WIDTH {
         if is_named(models, row, id, wanted) {
             return Some(row);
         }
-        row += 1;
     }
     None
 }
@@ -73,86 +50,56 @@ fn row_named(models: &[u64], id: u64, wanted: Option<u64>) -> Option<usize>
 fn is_one_of(port: u64, a: u16, b: u16, c: u16) -> bool
     ensures { result ≡ member port (a ∷ b ∷ c ∷ []) }
 {
-    if a as u64 == port {
-        return true;
-    }
-    if b as u64 == port {
-        return true;
-    }
-    c as u64 == port
+    a as u64 == port || b as u64 == port || c as u64 == port
 }
 
 // An external coupling of this owner that has the port as the owner's: an input takes at its source port, an output puts out at its target port.
 fn port_key(owner: u64, port: u64, side: Side) -> Key
     ensures { result ≡ port_key side owner port }
 {
-    let first = Cell {
-        at: 0,
-        value: owner,
+    let (kind, at) = match side {
+        Side::In => (EXTERNAL_INPUT, 3),
+        Side::Out => (EXTERNAL_OUTPUT, 5),
     };
-    match side {
-        Side::In => Key {
-            first,
-            second: Cell { at: 1, value: 1 },
-            third: Cell { at: 3, value: port },
-            fourth: Cell { at: 3, value: port },
+    let held = Cell { at, value: port };
+    Key {
+        first: Cell {
+            at: 0,
+            value: owner,
         },
-        Side::Out => Key {
-            first,
-            second: Cell { at: 1, value: 2 },
-            third: Cell { at: 5, value: port },
-            fourth: Cell { at: 5, value: port },
-        },
+        second: Cell { at: 1, value: kind },
+        third: held,
+        fourth: held,
     }
 }
 
 // Whether a Coupled has the port, by its external couplings.
+#[tactic(auto, using(crate::proofs::Ends::ports))]
 fn coupled_has(couplings: &[u64], owner: u64, port: u64, side: Side) -> bool
     ensures { result ≡ member port (ports_of side (couplings_in couplings.now) owner Coupled) }
 {
     let key = port_key(owner, port, side);
-    match words::next_row(couplings, 6, 0, couplings.len() / 6, key) {
-        Some(_) => true,
-        None => false,
-    }
+    let rows = couplings.len() / COUPLING_WIDTH;
+    words::next_row(couplings, COUPLING_WIDTH, 0, rows, key).is_some()
 }
 
-// Whether the model takes messages at the port.
-fn takes(couplings: &[u64], id: u64, kind: Kind, port: u64) -> bool
-    ensures { result ≡ member port (ports_of In (couplings_in couplings.now) id kind) }
-{
-    match kind {
-        Kind::Processor(row) => row.input as u64 == port,
-        Kind::Batcher(row) => row.input as u64 == port,
-        Kind::Stopwatch(row) => is_one_of(port, row.start, row.stop, row.ask),
-        Kind::Coupled => coupled_has(couplings, id, port, Side::In),
-        Kind::Broken => false,
-    }
-}
-
-// Whether the model puts messages out at the port.
-fn puts_out(couplings: &[u64], id: u64, kind: Kind, port: u64) -> bool
-    ensures { result ≡ member port (ports_of Out (couplings_in couplings.now) id kind) }
-{
-    match kind {
-        Kind::Processor(row) => row.output as u64 == port,
-        Kind::Batcher(row) => row.output as u64 == port,
-        Kind::Stopwatch(row) => row.output as u64 == port,
-        Kind::Coupled => coupled_has(couplings, id, port, Side::Out),
-        Kind::Broken => false,
-    }
-}
-
+// Whether the model takes messages at the port, or puts them out there.
 fn has_port(couplings: &[u64], id: u64, kind: Kind, port: u64, side: Side) -> bool
     ensures { result ≡ member port (ports_of side (couplings_in couplings.now) id kind) }
 {
-    match side {
-        Side::In => takes(couplings, id, kind, port),
-        Side::Out => puts_out(couplings, id, kind, port),
+    match (kind, side) {
+        (Kind::Processor(row), Side::In) => row.input as u64 == port,
+        (Kind::Processor(row), Side::Out) => row.output as u64 == port,
+        (Kind::Batcher(row), Side::In) => row.input as u64 == port,
+        (Kind::Batcher(row), Side::Out) => row.output as u64 == port,
+        (Kind::Stopwatch(row), Side::In) => is_one_of(port, row.start, row.stop, row.ask),
+        (Kind::Stopwatch(row), Side::Out) => row.output as u64 == port,
+        (Kind::Coupled, _) => coupled_has(couplings, id, port, side),
     }
 }
 
 // What an end names, among the rows that have the parent that is asked for.
+#[tactic(auto, using(crate::proofs::Ends::ends))]
 fn end_of(
     models: &[u64],
     couplings: &[u64],
@@ -160,21 +107,30 @@ fn end_of(
     id: u64,
     port: u64,
     side: Side,
-) -> Known
+) -> Result<(), BadEnd>
     ensures { result ≡ end_in (is_parent_of wanted) models.now couplings.now id port side }
 {
-    match row_named(models, id, wanted) {
-        None => Known::NoModel,
-        Some(row) => if has_port(couplings, id, table::kind_at(models, row), port, side) {
-            Known::Known
+    let Some(row) = row_named(models, id, wanted) else {
+        return Err(BadEnd::NoModel)
+    };
+    match table::kind_at(models, row) {
+        Some(kind) => if has_port(couplings, id, kind, port, side) {
+            Ok(())
         } else {
-            Known::NoPort
+            Err(BadEnd::NoPort)
         },
+        None => Err(BadEnd::NoPort),
     }
 }
 
 // What an end of a connector, or the target of an injection, names: it is looked for among the models without parent.
-pub fn root_end(models: &[u64], couplings: &[u64], id: u64, port: u64, side: Side) -> Known
+pub fn root_end(
+    models: &[u64],
+    couplings: &[u64],
+    id: u64,
+    port: u64,
+    side: Side,
+) -> Result<(), BadEnd>
     ensures { result ≡ root_end_in models.now couplings.now id port side }
 {
     end_of(models, couplings, None, id, port, side)
@@ -188,7 +144,7 @@ pub fn component_end(
     id: u64,
     port: u64,
     side: Side,
-) -> Known
+) -> Result<(), BadEnd>
     ensures { result ≡ component_end_in models.now couplings.now owner id port side }
 {
     end_of(models, couplings, Some(owner), id, port, side)

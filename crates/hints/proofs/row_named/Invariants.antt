@@ -8,7 +8,4 @@ use Rattle.hints.proofs.row_named.Given as goal
 
 abbrev pub invariant-loop-row : goal.invariant-loop-row
 invariant-loop-row l =
-    (l.end ≡ length l.models / 10) × (first_from (is_named l.wanted l.models l.id) l.row (l.end - l.row) ≡ first_from (is_named l.wanted l.models l.id) 0 (length l.models / 10))
-
-abbrev pub decreases-loop-row : goal.decreases-loop-row
-decreases-loop-row l = l.end - l.row
+    first_from (is_named l.wanted l.models l.id) l.row (length l.models / 10 - l.row) ≡ first_from (is_named l.wanted l.models l.id) 0 (length l.models / 10)
