@@ -3,7 +3,7 @@ ghost use Rattle.std.specs.Prelude.{◌≤◌, length};
 
 use crate::course::{Course, Settings};
 use crate::{course, input, out, room, say, steps, trace, warn, why};
-use bench_file::{Counts, Misread, Page};
+use bench_file::{Counts, Page};
 use memory::Answer;
 use rules::{Message, Refusal};
 use std::io::Stderr;
@@ -45,14 +45,15 @@ pub(crate) fn file(rt: HostRuntime, path: &[u8], text: &[u8]) -> u64 {
         &mut actions,
     );
     match reading {
-        Err(
-            Misread {
-                line,
-                column,
-                expected,
-            },
-        ) => {
-            say::wrong_line(rt.stderr(), path, text, line, column, expected);
+        Err(wrong) => {
+            say::wrong_line(
+                rt.stderr(),
+                path,
+                text,
+                wrong.line,
+                wrong.column,
+                wrong.expected,
+            );
             course::WRONG
         }
         Ok(counts) => posted(

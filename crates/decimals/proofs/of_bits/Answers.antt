@@ -5,16 +5,11 @@ use native.Mathlib.Omega.{arith}
 use Rattle.times.proofs.Patterns.{leading}
 use Rattle.decimals.specs.Decimal.{placed}
 use Rattle.decimals.specs.Laws.{placed-whole}
-use Rattle.decimals.proofs.Fields.{digits, small-field, whole-field, placed-field, product-fits}
+use Rattle.decimals.proofs.Fields.{digits, small-field, whole-field, placed-field}
 use Rattle.decimals.proofs.of_bits.Goals as goal
 
 pub returns-then-field-lt-POINT : goal.returns-then-field-lt-POINT
 returns-then-field-lt-POINT c = sym (ap placed (small-field c.args.bits c.requires (omega arith)))
-
-pub overflow_mul-result : goal.overflow_mul-result
-overflow_mul-result c =
-    let b = c.args.bits in
-    record { fits = product-fits b (b / leading - 1075) c.power.result c.power.ensures (omega arith) }
 
 pub returns-then-field-ge-POINT : goal.returns-then-field-ge-POINT
 returns-then-field-ge-POINT c =
