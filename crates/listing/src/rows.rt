@@ -7,7 +7,6 @@ use crate::{course, input, out, room, run, say, steps};
 use rules::Refusal;
 use std::io;
 use std::io::{Read, Stderr};
-use trace_blocks::Judged;
 
 // More blocks than any file has.
 const MOST_BLOCKS: u64 = 0x20_0000_0000_0000;
@@ -188,8 +187,8 @@ fn blocks(path: &[u8], bytes: &[u8], out: &mut [u8], first: Course, ends: bool) 
 
 fn block(path: &[u8], bytes: &[u8], out: &mut [u8], c: Course, ends: bool) -> Course {
     match trace_blocks::judge_block(trace_blocks::SIX, c.number, ends, bytes) {
-        Judged::Rows(count) => good(bytes, out, c, count),
-        Judged::Bad => bad(path, bytes, out, c, ends),
+        Some(count) => good(bytes, out, c, count),
+        None => bad(path, bytes, out, c, ends),
     }
 }
 

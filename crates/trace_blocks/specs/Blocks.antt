@@ -1,10 +1,8 @@
 -- A trace on disk (02, A1), block by block: the 128 words of so many rows and their 512 bytes; what a reader asks of a block, and the rows in it. Definitions only. Assumes nothing.
-use Rattle.std.specs.Prelude.{ℕ, ◌+◌, ◌-◌, ◌*◌, ◌/◌, ◌%◌, ◌^◌, Bool, ◌||◌, List, [], ◌∷◌, ◌++◌, map, length, get_or, leb, eqb, if◌then◌else◌}
+use Rattle.std.specs.Prelude.{ℕ, ◌+◌, ◌-◌, ◌*◌, ◌/◌, ◌%◌, ◌^◌, Bool, ◌||◌, List, [], ◌∷◌, ◌++◌, map, length, get_or, leb, eqb, if◌then◌else◌, Option, Some, None}
 use Rattle.rules.specs.Base.{every, hold, from}
 use Rattle.words.specs.Laying.{zeros, over}
 use Rattle.trace_blocks.specs.declared.BlockKind.{BlockKind}
-use Rattle.trace_blocks.specs.declared.Judged.{Judged}
-use Rattle.trace_blocks.specs.declared.Judged.TheVariants.{Rows, Bad}
 
 -- "blocks of 512 bytes, 128 little-endian words of 32 bits"
 abbrev pub block_bytes : ℕ
@@ -90,9 +88,9 @@ is_block kind number ends block =
     ∷ eqb (sum (map (word_at block) (from 0 128)) % word_limit) (word_limit - 1)
     ∷ [])
 
--- how many rows it has, or that it is bad; so is every block of what is no kind
-unfoldable pub judged : BlockKind → (number : ℕ) → (ends : Bool) → List ℕ → Judged
-judged kind number ends block = if hold (is_kind kind ∷ is_block kind number ends block ∷ []) then Rows (count_in block) else Bad
+-- how many rows it has, or none where it is bad; so is every block of what is no kind
+unfoldable pub judged : BlockKind → (number : ℕ) → (ends : Bool) → List ℕ → Option ℕ
+judged kind number ends block = if hold (is_kind kind ∷ is_block kind number ends block ∷ []) then Some (count_in block) else None
 
 -- ---- the rows in a block: so many numbers from word 2 on
 unfoldable pub number_at : List ℕ → ℕ → ℕ

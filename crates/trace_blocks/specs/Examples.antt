@@ -1,8 +1,7 @@
 -- Computed blocks: one row, ten rows, check words that wrap, and what a reader says of blocks, right and wrong. Assumes nothing.
-use Rattle.std.specs.Prelude.{ℕ, ◌+◌, ◌-◌, ◌*◌, ◌^◌, true, false, ◌≡◌, refl, List, [], ◌∷◌, ◌++◌, map, length, take, drop, replicate}
+use Rattle.std.specs.Prelude.{ℕ, ◌+◌, ◌-◌, ◌*◌, ◌^◌, true, false, ◌≡◌, refl, List, [], ◌∷◌, ◌++◌, map, length, take, drop, replicate, Some, None}
 use Rattle.rules.specs.Base.{from}
 use Rattle.trace_blocks.specs.declared.BlockKind.{BlockKind}
-use Rattle.trace_blocks.specs.declared.Judged.TheVariants.{Rows, Bad}
 use Rattle.trace_blocks.specs.Blocks.{six, is_kind, bytes_of, word_at, halves, body_of, check_of, words_of, block_of, fills_block, can_write, written_block, is_block, judged, number_at, rows_in}
 use Rattle.trace_blocks.specs.Pairs.{pair_at, numbers_out, count_out}
 
@@ -115,30 +114,30 @@ unfolding can_write is_kind fills_block written_block block_of words_of body_of 
 lent = record { can = refl; short = refl; nothing = refl; too_many = refl; no_kind = refl; written = refl; stays = refl }
 
 pub record Judgements : Type 0 where
-  pub one : judged six 7 true good ≡ Rows 1
+  pub one : judged six 7 true good ≡ Some 1
   -- full, with a sum that wraps
-  pub ten : judged six 5 false (block (5 ∷ 10 ∷ replicate 120 0xffff_ffff) 0 104) ≡ Rows 10
-  pub second-kind : judged eight 7 true (block used 1 0xbfef_ffd9) ≡ Rows 1
+  pub ten : judged six 5 false (block (5 ∷ 10 ∷ replicate 120 0xffff_ffff) 0 104) ≡ Some 10
+  pub second-kind : judged eight 7 true (block used 1 0xbfef_ffd9) ≡ Some 1
   -- "a wrong length", where all else is right: the last byte of this one is 0
-  pub short : judged six 7 true (take 511 (block (7 ∷ 1 ∷ halves even_row) 0 0)) ≡ Bad
-  pub long : judged six 7 true (good ++ 0 ∷ []) ≡ Bad
+  pub short : judged six 7 true (take 511 (block (7 ∷ 1 ∷ halves even_row) 0 0)) ≡ None
+  pub long : judged six 7 true (good ++ 0 ∷ []) ≡ None
   -- "number"
-  pub other-number : judged six 8 true good ≡ Bad
-  pub number-wraps : judged six (2 ^ 32 + 7) true good ≡ Bad
+  pub other-number : judged six 8 true good ≡ None
+  pub number-wraps : judged six (2 ^ 32 + 7) true good ≡ None
   -- "count"
-  pub no_row : judged six 7 true (block (7 ∷ 0 ∷ []) 0 0xffff_fff8) ≡ Bad
-  pub eleven : judged six 7 true (block (7 ∷ 11 ∷ []) 0 0xffff_ffed) ≡ Bad
-  pub not_full : judged six 7 false good ≡ Bad
+  pub no_row : judged six 7 true (block (7 ∷ 0 ∷ []) 0 0xffff_fff8) ≡ None
+  pub eleven : judged six 7 true (block (7 ∷ 11 ∷ []) 0 0xffff_ffed) ≡ None
+  pub not_full : judged six 7 false good ≡ None
   -- "zero word": the first unused one, the last, the one behind ten rows, and word 126
-  pub first-unused : judged six 7 true (block (used ++ 1 ∷ []) 0 0xbfef_ffd9) ≡ Bad
-  pub last-unused : judged six 7 true (block (used ++ (replicate 111 0 ++ 1 ∷ [])) 0 0xbfef_ffd9) ≡ Bad
-  pub behind-ten : judged six 5 true (block (5 ∷ 10 ∷ halves (numbers 60) ++ 1 ∷ []) 0 0xffff_da33) ≡ Bad
-  pub marked : judged six 7 true (block used 1 0xbfef_ffd9) ≡ Bad
-  pub not-marked : judged eight 7 true good ≡ Bad
+  pub first-unused : judged six 7 true (block (used ++ 1 ∷ []) 0 0xbfef_ffd9) ≡ None
+  pub last-unused : judged six 7 true (block (used ++ (replicate 111 0 ++ 1 ∷ [])) 0 0xbfef_ffd9) ≡ None
+  pub behind-ten : judged six 5 true (block (5 ∷ 10 ∷ halves (numbers 60) ++ 1 ∷ []) 0 0xffff_da33) ≡ None
+  pub marked : judged six 7 true (block used 1 0xbfef_ffd9) ≡ None
+  pub not-marked : judged eight 7 true good ≡ None
   -- "check"
-  pub one_less : judged six 7 true (block used 0 0xbfef_ffd9) ≡ Bad
+  pub one_less : judged six 7 true (block used 0 0xbfef_ffd9) ≡ None
   -- what is no kind has no block
-  pub no_kind : judged (record { width = 0; most = 10; mark = 0 }) 7 true (block (7 ∷ 1 ∷ []) 0 0xffff_fff7) ≡ Bad
+  pub no_kind : judged (record { width = 0; most = 10; mark = 0 }) 7 true (block (7 ∷ 1 ∷ []) 0 0xffff_fff7) ≡ None
 
 pub judgements : Judgements
 unfolding judged is_kind is_block word_at

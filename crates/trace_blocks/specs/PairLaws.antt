@@ -1,5 +1,5 @@
 -- The laws of a block by pairs: a pair has its eight bytes and its two words, words that follow one another go by pairs, a row's number is a pair, and a block is judged by its pairs, test after test. Assumes nothing.
-use Rattle.std.specs.Prelude.{ℕ, zero, suc, ◌+◌, ◌-◌, ◌*◌, ◌/◌, ◌%◌, ◌≤◌, ◌<◌, Bool, ◌||◌, ◌≡◌, List, [], ◌∷◌, ◌++◌, map, length, get_or, set, take, T, leb, if◌then◌else◌}
+use Rattle.std.specs.Prelude.{ℕ, zero, suc, ◌+◌, ◌-◌, ◌*◌, ◌/◌, ◌%◌, ◌≤◌, ◌<◌, Bool, ◌||◌, ◌≡◌, List, [], ◌∷◌, ◌++◌, map, length, get_or, set, take, T, leb, if◌then◌else◌, Some, None}
 use Rattle.std.proofs.Math.Bool.{true, false}
 use Rattle.std.proofs.Math.Path.{refl, ap}
 use Rattle.std.proofs.Common.{sym, subst, ◌∙◌, le_trans, mul-le-mul_left, add-one, take-suc-set}
@@ -10,7 +10,6 @@ use Rattle.rules.specs.Ends.{All, nil, ◌&◌}
 use Rattle.rules.specs.Decides.{tells, ◌and◌, alone, at-most, itself}
 use Rattle.words.specs.Lists.{map_last}
 use Rattle.trace_blocks.specs.declared.BlockKind.{BlockKind}
-use Rattle.trace_blocks.specs.declared.Judged.TheVariants.{Rows, Bad}
 use Rattle.trace_blocks.specs.Blocks.{block_bytes, word_limit, is_kind, word_at, sum, count_in, is_block, judged, number_at, numbers_in}
 use Rattle.trace_blocks.specs.Pairs.{pair_at}
 use Rattle.trace_blocks.specs.WordLaws.{AreBytes, word_small}
@@ -160,11 +159,11 @@ module _ (kind : BlockKind) (number : ℕ) (ends : Bool) (block : List ℕ) wher
   unfolding is_block clear_from sum_from
   is_block-made = let at : 2 + 2 * (kind.width * count_in block) ≡ 2 * (kind.width * count_in block + 1) = omega arith in rw at
 
-  pub judged-pairs : AreBytes block → judged kind number ends block ≡ (if hold (pair_tests kind number ends block) then Rows (pair_at block 0 / word_limit) else Bad)
+  pub judged-pairs : AreBytes block → judged kind number ends block ≡ (if hold (pair_tests kind number ends block) then Some (pair_at block 0 / word_limit) else None)
   unfolding judged
   judged-pairs b =
-      ap (λ (t : Bool). if hold (is_kind kind ∷ t ∷ []) then Rows (count_in block) else Bad) is_block-made
-      ∙ ap (λ (t : Bool). if t then Rows (count_in block) else Bad)
+      ap (λ (t : Bool). if hold (is_kind kind ∷ t ∷ []) then Some (count_in block) else None) is_block-made
+      ∙ ap (λ (t : Bool). if t then Some (count_in block) else None)
       (flat (is_kind kind) (eqb (length block) block_bytes) (eqb (word_at block 0) number) (leb 1 (count_in block)) (leb (count_in block) kind.most)
       (ends || eqb (count_in block) kind.most) (clear_from block (kind.width * count_in block + 1)) (eqb (word_at block 126) kind.mark) (eqb (sum_from block 0 % word_limit) (word_limit - 1)))
       ∙ rw (pair-low block b 0, pair-high block b 0, pair-low block b 63)
@@ -181,8 +180,8 @@ module _ (kind : BlockKind) (number : ℕ) (ends : Bool) (block : List ℕ) wher
       flat true true true true true true true true false = refl
       flat true true true true true true true true true = refl
 
-  pub judged-bad : AreBytes block → (i : ℕ) → get_or (pair_tests kind number ends block) i true ≡ false → judged kind number ends block ≡ Bad
-  judged-bad b i e = judged-pairs b ∙ ap (λ (t : Bool). if t then Rows (pair_at block 0 / word_limit) else Bad) (hold-not (pair_tests kind number ends block) i e)
+  pub judged-bad : AreBytes block → (i : ℕ) → get_or (pair_tests kind number ends block) i true ≡ false → judged kind number ends block ≡ None
+  judged-bad b i e = judged-pairs b ∙ ap (λ (t : Bool). if t then Some (pair_at block 0 / word_limit) else None) (hold-not (pair_tests kind number ends block) i e)
 
-  pub judged-rows : AreBytes block → All (λ t. t ≡ true) (pair_tests kind number ends block) → judged kind number ends block ≡ Rows (pair_at block 0 / word_limit)
-  judged-rows b ts = judged-pairs b ∙ ap (λ (t : Bool). if t then Rows (pair_at block 0 / word_limit) else Bad) (hold-all (pair_tests kind number ends block) ts)
+  pub judged-rows : AreBytes block → All (λ t. t ≡ true) (pair_tests kind number ends block) → judged kind number ends block ≡ Some (pair_at block 0 / word_limit)
+  judged-rows b ts = judged-pairs b ∙ ap (λ (t : Bool). if t then Some (pair_at block 0 / word_limit) else None) (hold-all (pair_tests kind number ends block) ts)

@@ -16,13 +16,6 @@ pub struct BlockKind {
     pub mark: u32,
 }
 
-// What a block is told to be: so many rows, or no block of that kind.
-#[derive(Clone, Copy)]
-pub enum Judged {
-    Rows(usize),
-    Bad,
-}
-
 // A1's kind: rows of six numbers, ten a block, word 126 zero.
 pub const SIX: BlockKind = BlockKind {
     width: 6,
@@ -40,37 +33,22 @@ const LAST_PAIR: usize = 63;
 // How many numbers have room between the first pair and the last.
 const MOST_NUMBERS: usize = 62;
 
-fn wide(byte: u8) -> u64
-    ensures same { result ≡ byte }
-    ensures small { result < 256 }
-{
-    byte as u64
-}
-
 // The words 2 * pair and 2 * pair + 1.
 fn pair_at(block: &[u8], pair: usize) -> u64
     requires { pair * 8 + 8 ≤ length block.now }
     ensures { result ≡ pair_at block.now pair }
 {
     let at = pair * 8;
-    wide(block[at])
-        + wide(block[at + 1]) * 0x100
-        + wide(block[at + 2]) * 0x1_0000
-        + wide(block[at + 3]) * 0x100_0000
-        + wide(block[at + 4]) * 0x1_0000_0000
-        + wide(block[at + 5]) * 0x100_0000_0000
-        + wide(block[at + 6]) * 0x1_0000_0000_0000
-        + wide(block[at + 7]) * 0x100_0000_0000_0000
-}
-
-fn put_word(block: &mut [u8], at: usize, word: u64)
-    requires { at + 4 ≤ length block.old }
-    ensures { block.new ≡ laid at (word_bytes word) block.old }
-{
-    block[at] = (word % 0x100) as u8;
-    block[at + 1] = (word / 0x100 % 0x100) as u8;
-    block[at + 2] = (word / 0x1_0000 % 0x100) as u8;
-    block[at + 3] = (word / 0x100_0000 % 0x100) as u8;
+    u64::from_le_bytes([
+        block[at],
+        block[at + 1],
+        block[at + 2],
+        block[at + 3],
+        block[at + 4],
+        block[at + 5],
+        block[at + 6],
+        block[at + 7],
+    ])
 }
 
 fn put_pair(block: &mut [u8], pair: usize, number: u64)
@@ -78,8 +56,7 @@ fn put_pair(block: &mut [u8], pair: usize, number: u64)
     ensures { block.new ≡ laid (pair * 8) (bytes_of (halves (number ∷ []))) block.old }
 {
     let at = pair * 8;
-    put_word(block, at, number % WORD_LIMIT);
-    put_word(block, at + 4, number / WORD_LIMIT);
+    block[at..at + 8].copy_from_slice(&number.to_le_bytes());
 }
 
 // Both words of a pair, added.
@@ -137,13 +114,10 @@ fn put_numbers(rows: &[u64], block: &mut [u8]) -> u64
     ensures bounded { result ≤ 62 * 0x2_0000_0000 }
     ensures lays { block.new ≡ laid 8 (bytes_of (halves rows.now)) block.old }
 {
-    let mut i: usize = 0;
     let mut sum: u64 = 0;
-    while i < rows.len() {
-        let number = rows[i];
-        put_pair(block, i + 1, number);
-        sum += both(number);
-        i += 1;
+    for (i, number) in rows.iter().enumerate() {
+        put_pair(block, i + 1, *number);
+        sum += both(*number);
     }
     sum
 }
@@ -152,11 +126,7 @@ fn clear(block: &mut [u8], start: usize, end: usize)
     requires { (start ≤ end) × (end ≤ length block.old) }
     ensures { block.new ≡ laid start (zeros (end - start)) block.old }
 {
-    let mut at = start;
-    while at < end {
-        block[at] = 0;
-        at += 1;
-    }
+    block[start..end].fill(0);
 }
 
 // The words 126 and 127, by the sum of the words before them.
@@ -199,11 +169,9 @@ fn sum_of(block: &[u8]) -> u64
     requires { 512 ≤ length block.now }
     ensures { result ≡ sum (map (word_at block.now) (from 0 128)) }
 {
-    let mut pair: usize = 0;
     let mut sum: u64 = 0;
-    while pair < 64 {
+    for pair in 0..64 {
         sum += both(pair_at(block, pair));
-        pair += 1;
     }
     sum
 }
@@ -213,12 +181,10 @@ fn is_clear(block: &[u8], first: usize) -> bool
     requires { 512 ≤ length block.now }
     ensures { result ≡ every (λ i. eqb (word_at block.now i) 0) (from (2 * first) (126 - 2 * first)) }
 {
-    let mut pair = first;
-    while pair < LAST_PAIR {
+    for pair in first..LAST_PAIR {
         if pair_at(block, pair) != 0 {
             return false;
         }
-        pair += 1;
     }
     true
 }
@@ -240,35 +206,35 @@ fn count_fits(kind: BlockKind, count: u64, ends: bool) -> bool
     count == most
 }
 
-// How many rows a block has that stands in a file as this number, and ends it or not.
-pub fn judge_block(kind: BlockKind, number: u64, ends: bool, block: &[u8]) -> Judged
+// How many rows a block has that stands in a file as this number, and ends it or not; none where it is no block of that kind.
+pub fn judge_block(kind: BlockKind, number: u64, ends: bool, block: &[u8]) -> Option<usize>
     ensures { result ≡ judged kind number ends block.now }
 {
     if !is_kind(kind) {
-        return Judged::Bad;
+        return None;
     }
     if block.len() != BLOCK_BYTES {
-        return Judged::Bad;
+        return None;
     }
     let head = pair_at(block, 0);
     let count = head / WORD_LIMIT;
     if head % WORD_LIMIT != number {
-        return Judged::Bad;
+        return None;
     }
     if !count_fits(kind, count, ends) {
-        return Judged::Bad;
+        return None;
     }
     let width = kind.width;
     if !is_clear(block, width * (count as usize) + 1) {
-        return Judged::Bad;
+        return None;
     }
     if pair_at(block, LAST_PAIR) % WORD_LIMIT != kind.mark as u64 {
-        return Judged::Bad;
+        return None;
     }
     if sum_of(block) % WORD_LIMIT != WORD_LIMIT - 1 {
-        return Judged::Bad;
+        return None;
     }
-    Judged::Rows(count as usize)
+    Some(count as usize)
 }
 
 fn copy_numbers(block: &[u8], rows: &mut [u64])
@@ -276,10 +242,8 @@ fn copy_numbers(block: &[u8], rows: &mut [u64])
     requires few { length rows.old ≤ 62 }
     ensures { rows.new ≡ numbers_in (length rows.old) block.now }
 {
-    let mut i: usize = 0;
-    while i < rows.len() {
-        rows[i] = pair_at(block, i + 1);
-        i += 1;
+    for (i, number) in rows.iter_mut().enumerate() {
+        *number = pair_at(block, i + 1);
     }
 }
 
@@ -287,10 +251,8 @@ fn copy_numbers(block: &[u8], rows: &mut [u64])
 pub fn read_numbers(block: &[u8], rows: &mut [u64])
     ensures { rows.new ≡ numbers_out block.now rows.old }
 {
-    if BLOCK_BYTES <= block.len() {
-        if rows.len() <= MOST_NUMBERS {
-            copy_numbers(block, rows);
-        }
+    if BLOCK_BYTES <= block.len() && rows.len() <= MOST_NUMBERS {
+        copy_numbers(block, rows);
     }
 }
 

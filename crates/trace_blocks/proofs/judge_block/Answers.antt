@@ -1,12 +1,12 @@
 -- `trace_blocks::judge_block` meets its contract: each answer by the test that decides. Assumes nothing.
 use Prim.Native.Nat.{ℕ, ◌+◌, ◌-◌, ◌*◌, ◌/◌, ◌%◌, ◌≤◌}
+use Rattle.std.specs.Prelude.{Some}
 use mathlib.Core.Bool.{true}
 use mathlib.Core.Path.{◌≡◌, sym, ap, ◌∙◌}
 use native.Mathlib.Omega.{arith}
 use lib.ListN.{length}
 use borrow.Author.Tests.{eq-eqb, ne_eqb}
 use Rattle.rules.specs.Ends.{nil, ◌&◌}
-use Rattle.trace_blocks.specs.declared.Judged.TheVariants.{Rows}
 use Rattle.trace_blocks.specs.Blocks.{block_bytes, word_limit, is_kind}
 use Rattle.trace_blocks.specs.Pairs.{pair_at}
 use Rattle.trace_blocks.specs.WordLaws.{AreBytes}
@@ -109,7 +109,7 @@ returns c =
     let sum_is : c.sum_of.result % word_limit ≡ sum_from c.args.block.now 0 % word_limit = ap (λ (n : ℕ). n % word_limit) (c.sum_of.ensures ∙ sum-whole c.args.block.now) in
     let a = c.args in
     let block = a.block.now in
-    ap (λ (n : ℕ). Rows (n / word_limit)) c.pair_at-head.ensures
+    ap (λ (n : ℕ). Some (n / word_limit)) c.pair_at-head.ensures
     ∙ sym
     (judged-rows a.kind a.number a.ends block (bytes)
     (kind-is

@@ -6,4 +6,4 @@ use Rattle.trace_blocks.proofs.pair_at.Goals as goal
 pub returns : goal.returns
 returns c =
     let a = c.args in
-    omega (arith, pair-bytes a.block.now a.pair)
+    omega (arith, c.from_le_bytes.ensures, pair-bytes a.block.now a.pair)

@@ -4,7 +4,6 @@ use mathlib.Core.Path.{◌≡◌, sym, ap, ◌∙◌}
 use native.Mathlib.Nat.{add-zero}
 use native.Mathlib.Omega.{arith}
 use Rattle.trace_blocks.specs.PairLaws.{sum_from, sum-next}
-use borrow.Author.Rules.{rules}
 use Rattle.trace_blocks.proofs.sum_of.Goals as goal
 
 -- what is added leaves what is still to be added
@@ -16,7 +15,7 @@ loop-pair-preserved c =
     let l = c.loop-pair in
     let block = c.args.block.now in
     let next = sum-next block (λ i. omega (arith, c.type_inv.block i)) l.pair (omega arith) in
-    (search rules, omega arith, sum-on l.sum c.both-sum.result (sum_from block l.pair) (sum_from block (l.pair + 1)) (sum_from block 0) l.invariant.2 (next ∙ rw (c.both-sum.ensures, c.pair_at.ensures)))
+    (omega arith, sum-on l.sum c.both-sum.result (sum_from block l.pair) (sum_from block (l.pair + 1)) (sum_from block 0) l.invariant.1 (next ∙ rw (c.both-sum.ensures, c.pair_at.ensures)))
 
 pub returns : goal.returns
 unfolding sum_from
@@ -25,4 +24,4 @@ returns c =
     let block = c.args.block.now in
     let e : l.pair ≡ 64 = omega arith in
     let none : sum_from block l.pair ≡ 0 = rw e in
-    sym (add-zero l.sum) ∙ sym (ap (λ (n : ℕ). l.sum + n) none) ∙ l.invariant.2
+    sym (add-zero l.sum) ∙ sym (ap (λ (n : ℕ). l.sum + n) none) ∙ l.invariant.1
