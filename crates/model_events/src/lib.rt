@@ -40,18 +40,12 @@ fn has_due(state: &[u64], mem: &[u64], depth: usize, row: usize) -> bool
     ensures { result ≡ some_of (Step.due (table_in state.now) depth (states_in (table_in state.now) mem.now)) (components (table_in state.now) (id_at (table_in state.now) row)) }
 {
     let owner = lookup::id_of(state, row);
-    let end = lookup::row_count(state);
     let mut from = 0;
-    while from < end {
-        match lookup::next_component(state, from, owner) {
-            None => return false,
-            Some(component) => {
-                if is_due(state, mem, depth, component) {
-                    return true;
-                }
-                from = component + 1;
-            }
+    while let Some(component) = lookup::next_component(state, from, owner) {
+        if is_due(state, mem, depth, component) {
+            return true;
         }
+        from = component + 1;
     }
     false
 }
@@ -124,19 +118,10 @@ fn to_components(
     ensures frame { Frame (table_in state.now) 0 0 mem.old mem.new }
 {
     let owner = lookup::id_of(state, row);
-    let end = lookup::coupling_count(state);
     let mut from = 0;
-    while from < end {
-        match lookup::next_input(state, from, owner, port as u64) {
-            None => return Ok(()),
-            Some(coupling) => {
-                match to_target(state, services, mem, depth, clock, owner, coupling, content) {
-                    Ok(()) => {}
-                    Err(refusal) => return Err(refusal),
-                }
-                from = coupling + 1;
-            }
-        }
+    while let Some(coupling) = lookup::next_input(state, from, owner, port as u64) {
+        to_target(state, services, mem, depth, clock, owner, coupling, content)?;
+        from = coupling + 1;
     }
     Ok(())
 }

@@ -1,11 +1,12 @@
 -- `model_events::external`, `to_components` and `to_target` meet their contracts. The loop: what is left of the couplings, from the words as they stand, is the whole from the words at first. Assumes nothing.
+use Rattle.std.proofs.lemmas.Result.{err_from_is_err_and}
 use Rattle.std.specs.Prelude.{Err, Ok, Option, Result, ⊤}
 use Rattle.rules.specs.declared.Refusal.{Refusal}
-use mathlib.Core.Path.{◌≡◌, refl, sym, ap, subst, ◌∙◌}
+use mathlib.Core.Path.{◌≡◌, refl, sym, subst, ◌∙◌}
 use native.Mathlib.Omega.{arith}
 use lib.ListN.{length}
 use Rattle.rules.specs.Base.{done}
-use Rattle.rules.specs.Table.{id_at, kind_at, components}
+use Rattle.rules.specs.Table.{id_at, components}
 use Rattle.rules.specs.Ends.{All}
 use Rattle.rules.specs.Depth.{Deep}
 use Rattle.rules.specs.Step as Step
@@ -13,13 +14,11 @@ use Rattle.selection.specs.Selecting.{is_input}
 use Rattle.selection.specs.Selected.{sweep-bounds}
 use Rattle.lookup.specs.InsideLaws.{sizes-in, coupling-fits}
 use Rattle.lookup.specs.Inside.{table_in, couplings_in}
-use Rattle.views.specs.World.{world_in, Does}
-use Rattle.views.proofs.Frames.{frame_same, frame_then}
-use Rattle.sweeps.specs.Loops.{going_start, going_on, going-stops, going-none, going_end}
-use Rattle.model_events.specs.DueHere.{is-coupled-is}
+use Rattle.views.specs.World.{Does}
+use Rattle.views.proofs.Frames.{frame_same}
+use Rattle.sweeps.specs.Loops.{going_start, going_on, going-stops, going-none}
 use Rattle.model_events.specs.External.{along_input, coupled-does, target_none, target_one}
-use Rattle.words.specs.SearchLaws.{found-to}
-use Rattle.model_events.specs.Along.{deeper, found-deep}
+use Rattle.model_events.specs.Along.{found-deep}
 use mathlib.Core.List.{[], ◌∷◌}
 use lib.Dec.{eqb}
 use Rattle.rules.specs.Base.{those}
@@ -29,38 +28,6 @@ use Prim.Native.Nat.{ℕ, suc, ◌-◌}
 use borrow.Author.Rules.{rules}
 use Rattle.model_events.proofs.+external_to_components_to_target.Goals as goal
 
--- src/lib.rt:91:9
-pub external-returns-then-depth-eq0 : goal.external-returns-then-depth-eq0
-unfolding Step.external
-external-returns-then-depth-eq0 t c =
-    let a = c.args in
-    record { does = (λ log. ap (λ (d : ℕ). Step.external (table_in a.state.now) a.services.now d a.clock a.row a.port a.content (world_in (table_in a.state.now) a.mem.now log)) c.if-depth-eq0.true); frame = frame_same (table_in a.state.now) 0 0 a.mem.now }
-
--- src/lib.rt:93:8
-pub external-is_coupled-requires : goal.external-is_coupled-requires
-external-is_coupled-requires t c =
-    (c.requires.0.scene.inside, c.requires.0.in_table)
-
--- src/lib.rt:94:9
-pub external-to_components-requires : goal.external-to_components-requires
-external-to_components-requires t c =
-    let a = c.args in
-    let e = sym c.is_coupled.ensures ∙ c.if-is_coupled.true in
-    (search rules, (c.requires.0, is-coupled-is (kind_at (table_in a.state.now) a.row) e, deeper (table_in a.state.now) a.depth a.row (let z = c.if-depth-eq0.false in omega arith) e c.requires.1))
-
--- src/lib.rt:94:9
-pub external-returns-then-is_coupled : goal.external-returns-then-is_coupled
-external-returns-then-is_coupled t c =
-    let a = c.args in
-    let q : suc (a.depth - 1) ≡ a.depth = (let z = c.if-depth-eq0.false in omega arith) in
-    let d = subst (λ n. Does c.to_components.result (Step.external (table_in a.state.now) a.services.now n a.clock a.row a.port a.content) (table_in a.state.now) a.mem.now c.to_components.new.mem) q c.to_components.ensures.does in
-    record { does = d; frame = c.to_components.ensures.frame }
-
--- src/lib.rt:96:5
-pub external-atom_external-requires : goal.external-atom_external-requires
-external-atom_external-requires t c =
-    (c.requires.0, sym c.is_coupled.ensures ∙ c.if-is_coupled.false)
-
 -- src/lib.rt:76:1
 pub external-returns : goal.external-returns
 external-returns t c =
@@ -69,127 +36,75 @@ external-returns t c =
     let d = subst (λ n. Does c.atom_external.result (Step.external (table_in a.state.now) a.services.now n a.clock a.row a.port a.content) (table_in a.state.now) a.mem.now c.atom_external.new.mem) q (c.atom_external.ensures.does (a.depth - 1)) in
     record { does = d; frame = c.atom_external.ensures.frame }
 
--- src/lib.rt:114:9
-pub to_components-id_of-owner-requires : goal.to_components-id_of-owner-requires
-to_components-id_of-owner-requires t c =
-    c.requires.0.scene.inside
-
--- src/lib.rt:115:9
-pub to_components-coupling_count-end-requires : goal.to_components-coupling_count-end-requires
-to_components-coupling_count-end-requires t c =
-    c.requires.0.scene.inside
-
--- src/lib.rt:117:5
-pub to_components-loop-from-init : goal.to_components-loop-from-init
-to_components-loop-from-init t c =
-    let a = c.args in (
-      c.id_of-owner.ensures,
-      c.coupling_count-end.ensures,
-      refl,
-      going_start (table_in a.state.now) (along_input a.state.now a.services.now a.depth a.clock c.id_of-owner.result a.content) (is_input (couplings_in a.state.now) c.id_of-owner.result a.port) a.mem.now c.coupling_count-end.result c.requires.0.scene.ready,
-    )
-
--- src/lib.rt:118:15
-pub to_components-next_input-requires : goal.to_components-next_input-requires
-to_components-next_input-requires t c =
-    c.requires.0.scene.inside
-
--- src/lib.rt:119:31
-pub to_components-shape_of-mem-in-None : goal.to_components-shape_of-mem-in-None
-to_components-shape_of-mem-in-None t c =
-    c.loop-from.invariant.2
-
--- src/lib.rt:119:31
-pub to_components-returns-in-None : goal.to_components-returns-in-None
-to_components-returns-in-None t c =
+pub to_components-loop-coupling-init : goal.to_components-loop-coupling-init
+to_components-loop-coupling-init t c =
     let a = c.args in
-    let g = c.loop-from.invariant.3 in
-    let found = found-to (is_input (couplings_in a.state.now) c.id_of-owner.result a.port) c.loop-from.from c.coupling_count-end.result (length (table_in a.state.now).couplings) _ _ c.loop-from.invariant.1 c.next_input.ensures c.in-None.is in
-    let m = going-none (table_in a.state.now) (along_input a.state.now a.services.now a.depth a.clock c.id_of-owner.result a.content) (is_input (couplings_in a.state.now) c.id_of-owner.result a.port) a.mem.now c.coupling_count-end.result c.loop-from.from c.loop-from.mem g found in
-    record { does = coupled-does a.state.now c.requires.0.scene.inside a.services.now a.depth a.clock a.mem.now c.loop-from.mem (Ok tt) a.row a.port a.content c.id_of-owner.result c.coupling_count-end.result c.requires.1 c.loop-from.invariant.0 c.loop-from.invariant.1 m; frame = g.frame }
+    let s = a.state.now in
+    (c.id_of-owner.ensures, refl, going_start (table_in s) (along_input s a.services.now a.depth a.clock c.id_of-owner.result a.content) (is_input (couplings_in s) c.id_of-owner.result a.port) a.mem.now (length (table_in s).couplings) c.requires.0.scene.ready)
 
--- src/lib.rt:121:23
 pub to_components-to_target-requires : goal.to_components-to_target-requires
 to_components-to_target-requires t c =
     let a = c.args in
-    let g = c.loop-from.invariant.3 in
-    let found = found-to (is_input (couplings_in a.state.now) c.id_of-owner.result a.port) c.loop-from.from c.coupling_count-end.result (length (table_in a.state.now).couplings) _ _ c.loop-from.invariant.1 c.next_input.ensures c.in-Some.is in
-    let bounds = sweep-bounds {S = ℕ} (λ k s. done s) (is_input (couplings_in a.state.now) c.id_of-owner.result a.port) c.loop-from.from c.coupling_count-end.result 0 c.in-Some.coupling found in (
-      search rules,
-      (
-        record { inside = c.requires.0.scene.inside; ready = g.ready; time = c.requires.0.scene.time },
-        (let b = bounds.1 in let e = c.loop-from.invariant.1 in omega arith),
-        subst (λ (o : ℕ). All (Deep (table_in a.state.now) a.depth) (components (table_in a.state.now) o)) (sym c.loop-from.invariant.0) c.requires.2,
-      ),
-    )
+    let s = a.state.now in
+    let found = sym c.next_input.ensures ∙ c.in-Some.is in
+    let bounds = sweep-bounds {S = ℕ} (λ k s. done s) (is_input (couplings_in s) c.id_of-owner.result a.port) c.loop-coupling.from (length (table_in s).couplings) 0 c.in-Some.coupling found in
+    let inside = c.requires.0.scene in
+    (search rules, (record { inside = inside.inside; ready = c.loop-coupling.invariant.2.ready; time = inside.time }, bounds.1, subst (λ (o : ℕ). All (Deep (table_in s) a.depth) (components (table_in s) o)) (sym c.loop-coupling.invariant.0) c.requires.2))
 
--- src/lib.rt:123:49
-pub to_components-shape_of-mem-in-Err : goal.to_components-shape_of-mem-in-Err
-to_components-shape_of-mem-in-Err t c =
-    c.to_target.auto.mem ∙ c.loop-from.invariant.2
-
--- src/lib.rt:123:49
-pub to_components-returns-in-Err : goal.to_components-returns-in-Err
-to_components-returns-in-Err t c =
+pub to_components-returns-in_err-to_target-clause-does : goal.to_components-returns-in_err-to_target-clause-does
+to_components-returns-in_err-to_target-clause-does t c =
+    let refused = err_from_is_err_and c.from_residual.result c.from_residual.ensures.1 in
     let a = c.args in
-    let g = c.loop-from.invariant.3 in
-    let found = found-to (is_input (couplings_in a.state.now) c.id_of-owner.result a.port) c.loop-from.from c.coupling_count-end.result (length (table_in a.state.now).couplings) _ _ c.loop-from.invariant.1 c.next_input.ensures c.in-Some.is in
-    let d = subst (λ (r : Result ⊤ Refusal). Does r (along_input a.state.now a.services.now a.depth a.clock c.id_of-owner.result a.content c.in-Some.coupling) (table_in a.state.now) c.loop-from.mem c.to_target.new.mem) c.in-Err.is c.to_target.ensures.does in
-    let s = going-stops (table_in a.state.now) (along_input a.state.now a.services.now a.depth a.clock c.id_of-owner.result a.content) (is_input (couplings_in a.state.now) c.id_of-owner.result a.port) a.mem.now c.coupling_count-end.result c.loop-from.from c.loop-from.mem g c.in-Some.coupling c.in-Err.refusal c.to_target.new.mem found d in
-    record { does = coupled-does a.state.now c.requires.0.scene.inside a.services.now a.depth a.clock a.mem.now c.to_target.new.mem (Err c.in-Err.refusal) a.row a.port a.content c.id_of-owner.result c.coupling_count-end.result c.requires.1 c.loop-from.invariant.0 c.loop-from.invariant.1 s; frame = frame_then (table_in a.state.now) 0 0 a.mem.now c.loop-from.mem c.to_target.new.mem g.frame c.to_target.ensures.frame }
+    let s = a.state.now in
+    let t' = table_in s in
+    let visit = along_input s a.services.now a.depth a.clock c.id_of-owner.result a.content in
+    let test = is_input (couplings_in s) c.id_of-owner.result a.port in
+    let end = length t'.couplings in
+    let loop = c.loop-coupling in
+    let found = sym c.next_input.ensures ∙ c.in-Some.is in
+    let after = c.to_target.new.mem in
+    let d = subst (λ (r : Result ⊤ Refusal). Does r (visit c.in-Some.coupling) t' loop.mem after) c.in_err-to_target.was c.to_target.ensures.does in
+    let stops = going-stops t' visit test a.mem.now end loop.from loop.mem loop.invariant.2 c.in-Some.coupling _ after found d in
+    rw (refused.1, refused.2) (coupled-does s c.requires.0.scene.inside a.services.now a.depth a.clock a.mem.now after (Err _) a.row a.port a.content c.id_of-owner.result end c.requires.1 loop.invariant.0 refl stops)
 
--- src/lib.rt:125:24
 pub to_components-overflow_add-from : goal.to_components-overflow_add-from
 to_components-overflow_add-from t c =
     let a = c.args in
-    let found = found-to (is_input (couplings_in a.state.now) c.id_of-owner.result a.port) c.loop-from.from c.coupling_count-end.result (length (table_in a.state.now).couplings) _ _ c.loop-from.invariant.1 c.next_input.ensures c.in-Some.is in
-    let bounds = sweep-bounds {S = ℕ} (λ k s. done s) (is_input (couplings_in a.state.now) c.id_of-owner.result a.port) c.loop-from.from c.coupling_count-end.result 0 c.in-Some.coupling found in
-    let few = sizes-in a.state.now c.requires.0.scene.inside in
-    omega (arith, bounds.1, c.loop-from.invariant.1, few.2)
+    let s = a.state.now in
+    let found = sym c.next_input.ensures ∙ c.in-Some.is in
+    let bounds = sweep-bounds {S = ℕ} (λ k s. done s) (is_input (couplings_in s) c.id_of-owner.result a.port) c.loop-coupling.from (length (table_in s).couplings) 0 c.in-Some.coupling found in
+    omega (arith, bounds.1, (sizes-in s c.requires.0.scene.inside).2)
 
--- src/lib.rt:117:5
-pub to_components-loop-from-smaller : goal.to_components-loop-from-smaller
-to_components-loop-from-smaller t c =
+pub to_components-loop-coupling-smaller : goal.to_components-loop-coupling-smaller
+to_components-loop-coupling-smaller t c =
     let a = c.args in
-    let found = found-to (is_input (couplings_in a.state.now) c.id_of-owner.result a.port) c.loop-from.from c.coupling_count-end.result (length (table_in a.state.now).couplings) _ _ c.loop-from.invariant.1 c.next_input.ensures c.in-Some.is in
-    let bounds = sweep-bounds {S = ℕ} (λ k s. done s) (is_input (couplings_in a.state.now) c.id_of-owner.result a.port) c.loop-from.from c.coupling_count-end.result 0 c.in-Some.coupling found in
+    let s = a.state.now in
+    let found = sym c.next_input.ensures ∙ c.in-Some.is in
+    let bounds = sweep-bounds {S = ℕ} (λ k s. done s) (is_input (couplings_in s) c.id_of-owner.result a.port) c.loop-coupling.from (length (table_in s).couplings) 0 c.in-Some.coupling found in
     omega (arith, bounds.0, bounds.1)
 
--- src/lib.rt:117:5
-pub to_components-loop-from-preserved : goal.to_components-loop-from-preserved
-to_components-loop-from-preserved t c =
+pub to_components-loop-coupling-preserved : goal.to_components-loop-coupling-preserved
+to_components-loop-coupling-preserved t c =
     let a = c.args in
-    let g = c.loop-from.invariant.3 in
-    let found = found-to (is_input (couplings_in a.state.now) c.id_of-owner.result a.port) c.loop-from.from c.coupling_count-end.result (length (table_in a.state.now).couplings) _ _ c.loop-from.invariant.1 c.next_input.ensures c.in-Some.is in
-    let m = subst (λ (r : Result ⊤ Refusal). Does r (along_input a.state.now a.services.now a.depth a.clock c.id_of-owner.result a.content c.in-Some.coupling) (table_in a.state.now) c.loop-from.mem c.to_target.new.mem) c.in-Ok.is c.to_target.ensures.does in (
-      c.loop-from.invariant.0,
-      c.loop-from.invariant.1,
-      c.to_target.auto.mem ∙ c.loop-from.invariant.2,
-      going_on (table_in a.state.now) (along_input a.state.now a.services.now a.depth a.clock c.id_of-owner.result a.content) (is_input (couplings_in a.state.now) c.id_of-owner.result a.port) a.mem.now c.coupling_count-end.result c.loop-from.from c.loop-from.mem g c.in-Some.coupling c.to_target.new.mem found m c.to_target.ensures.frame,
-    )
+    let s = a.state.now in
+    let t' = table_in s in
+    let visit = along_input s a.services.now a.depth a.clock c.id_of-owner.result a.content in
+    let test = is_input (couplings_in s) c.id_of-owner.result a.port in
+    let end = length t'.couplings in
+    let loop = c.loop-coupling in
+    let found = sym c.next_input.ensures ∙ c.in-Some.is in
+    let after = c.to_target.new.mem in
+    let moves = subst (λ (r : Result ⊤ Refusal). Does r (visit c.in-Some.coupling) t' loop.mem after) c.in_ok-to_target.was c.to_target.ensures.does in
+    (loop.invariant.0, c.to_target.auto.mem ∙ loop.invariant.1, going_on t' visit test a.mem.now end loop.from loop.mem loop.invariant.2 c.in-Some.coupling after found moves c.to_target.ensures.frame)
 
--- src/lib.rt:100:1
-pub to_components-shape_of-mem : goal.to_components-shape_of-mem
-to_components-shape_of-mem t c =
-    c.loop-from.invariant.2
-
--- src/lib.rt:100:1
 pub to_components-returns : goal.to_components-returns
 to_components-returns t c =
     let a = c.args in
-    let g = c.loop-from.invariant.3 in
-    let m = going_end (table_in a.state.now) (along_input a.state.now a.services.now a.depth a.clock c.id_of-owner.result a.content) (is_input (couplings_in a.state.now) c.id_of-owner.result a.port) a.mem.now c.coupling_count-end.result c.loop-from.from c.loop-from.mem g c.loop-from-test.false in
-    record { does = coupled-does a.state.now c.requires.0.scene.inside a.services.now a.depth a.clock a.mem.now c.loop-from.mem (Ok tt) a.row a.port a.content c.id_of-owner.result c.coupling_count-end.result c.requires.1 c.loop-from.invariant.0 c.loop-from.invariant.1 m; frame = g.frame }
-
--- src/lib.rt:147:9
-pub to_target-coupling_target-to-requires : goal.to_target-coupling_target-to-requires
-to_target-coupling_target-to-requires t c =
-    c.requires.0.inside
-
--- src/lib.rt:148:11
-pub to_target-component_of-requires : goal.to_target-component_of-requires
-to_target-component_of-requires t c =
-    c.requires.0.inside
+    let s = a.state.now in
+    let t' = table_in s in
+    let g = c.loop-coupling.invariant.2 in
+    let m = going-none t' (along_input s a.services.now a.depth a.clock c.id_of-owner.result a.content) (is_input (couplings_in s) c.id_of-owner.result a.port) a.mem.now (length t'.couplings) c.loop-coupling.from c.loop-coupling.mem g (sym c.next_input.ensures ∙ c.in_default.is) in
+    record { does = coupled-does s c.requires.0.scene.inside a.services.now a.depth a.clock a.mem.now c.loop-coupling.mem (Ok tt) a.row a.port a.content c.id_of-owner.result (length t'.couplings) c.requires.1 c.loop-coupling.invariant.0 refl m; frame = g.frame }
 
 -- src/lib.rt:157:13
 pub to_target-overflow_cast-to : goal.to_target-overflow_cast-to

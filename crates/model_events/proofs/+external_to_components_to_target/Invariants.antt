@@ -18,13 +18,12 @@ decreases-to_components l = l.depth * 3 + 2
 abbrev pub decreases-to_target : goal.decreases-to_target
 decreases-to_target l = l.depth * 3 + 1
 
-abbrev pub invariant-to_components-loop-from : goal.invariant-to_components-loop-from
-invariant-to_components-loop-from l =
+abbrev pub invariant-to_components-loop-coupling : goal.invariant-to_components-loop-coupling
+invariant-to_components-loop-coupling l =
     (l.owner ≡ id_at (table_in l.state) l.row)
-    × (l.end ≡ length (table_in l.state).couplings)
     × (length l.mem ≡ length l.initial.mem)
-    × Going (table_in l.state) (along_input l.state l.services l.depth l.clock l.owner l.content) (is_input (couplings_in l.state) l.owner l.port) l.initial.mem l.end l.from l.mem
+    × Going (table_in l.state) (along_input l.state l.services l.depth l.clock l.owner l.content) (is_input (couplings_in l.state) l.owner l.port) l.initial.mem (length (table_in l.state).couplings) l.from l.mem
 
-abbrev pub decreases-to_components-loop-from : goal.decreases-to_components-loop-from
-decreases-to_components-loop-from l =
-    l.end - l.from
+abbrev pub decreases-to_components-loop-coupling : goal.decreases-to_components-loop-coupling
+decreases-to_components-loop-coupling l =
+    length (table_in l.state).couplings - l.from

@@ -1,101 +1,80 @@
 -- `model_events::is_due` and `has_due` meet their contracts. The loop: whether one of the components left is due is whether one of all is. Assumes nothing.
 use mathlib.Core.Path.{sym, ap, ◌∙◌}
+use lib.ListN.{length}
 use native.Mathlib.Omega.{arith}
 use lib.Ieee.{Float, eq, of_bits}
 use Rattle.times.specs.Time.{instant}
-use Rattle.rules.specs.Base.{done, some_of}
+use Rattle.rules.specs.Base.{done}
 use Rattle.rules.specs.Step.{due}
 use Rattle.selection.specs.Selected.{sweep-bounds}
 use Rattle.lookup.specs.Inside.{table_in}
 use Rattle.lookup.specs.InsideLaws.{fine-in, sizes-in}
 use Rattle.views.specs.World.{states_in}
 use Rattle.views.proofs.Timers.{head-here, own-timer, timer-here}
-use Rattle.model_events.specs.Due.{some-on, some-none, some_end, due-none}
-use Rattle.model_events.specs.DueHere.{is_one, components_from, found-next, due-here, due-held, due-inside}
+use Rattle.model_events.specs.Due.{some-on, some-none, due-none}
+use Rattle.model_events.specs.DueHere.{is_one, due-here, due-held, due-inside}
 use Prim.Native.Nat.{ℕ}
 use borrow.Author.Rules.{rules}
 use Rattle.model_events.proofs.+has_due_is_due.Goals as goal
 
-pub has_due-loop-from-init : goal.has_due-loop-from-init
-has_due-loop-from-init t c =
-    let a = c.args in (
-      c.id_of-owner.ensures,
-      c.row_count-end.ensures,
-      ap (some_of (due (table_in a.state.now) a.depth (states_in (table_in a.state.now) a.mem.now))) (components_from (table_in a.state.now) _ _ c.row_count-end.ensures a.row c.id_of-owner.ensures),
-    )
-
-pub has_due-returns-in-None : goal.has_due-returns-in-None
-has_due-returns-in-None t c =
-    let a = c.args in
-    sym (some-none (due (table_in a.state.now) a.depth (states_in (table_in a.state.now) a.mem.now)) (is_one (table_in a.state.now) c.id_of-owner.result) c.loop-from.from c.row_count-end.result
-    (found-next (table_in a.state.now) c.id_of-owner.result c.row_count-end.result c.loop-from.invariant.1 c.loop-from.from _ _ c.next_component.ensures c.in-None.is))
-    ∙ c.loop-from.invariant.2
-
 pub has_due-is_due-requires : goal.has_due-is_due-requires
 has_due-is_due-requires t c =
     let a = c.args in
-    let found = found-next (table_in a.state.now) c.id_of-owner.result c.row_count-end.result c.loop-from.invariant.1 c.loop-from.from _ _ c.next_component.ensures c.in-Some.is in
-    let bounds = sweep-bounds {S = ℕ} (λ k s. done s) (is_one (table_in a.state.now) c.id_of-owner.result) c.loop-from.from c.row_count-end.result 0 c.in-Some.component found in
-    (search rules, (c.requires.0, c.requires.1, (let b = bounds.1 in let e = c.loop-from.invariant.1 in omega arith)))
+    let t' = table_in a.state.now in
+    let found = sym c.next_component.ensures ∙ c.in-Some.is in
+    let bounds = sweep-bounds {S = ℕ} (λ k s. done s) (is_one t' c.id_of-owner.result) c.loop-component.from (length t'.rows) 0 c.in-Some.component found in
+    (search rules, (c.requires.0, c.requires.1, bounds.1))
 
 pub has_due-returns-then-is_due : goal.has_due-returns-then-is_due
 has_due-returns-then-is_due t c =
     let a = c.args in
-    let f = due (table_in a.state.now) a.depth (states_in (table_in a.state.now) a.mem.now) in
-    let found = found-next (table_in a.state.now) c.id_of-owner.result c.row_count-end.result c.loop-from.invariant.1 c.loop-from.from _ _ c.next_component.ensures c.in-Some.is in
-    sym (some-on f (is_one (table_in a.state.now) c.id_of-owner.result) c.loop-from.from c.row_count-end.result c.in-Some.component found ∙ rw (sym c.is_due.ensures ∙ c.if-is_due.true))
-    ∙ c.loop-from.invariant.2
+    let t' = table_in a.state.now in
+    let found = sym c.next_component.ensures ∙ c.in-Some.is in
+    sym (some-on (due t' a.depth (states_in t' a.mem.now)) (is_one t' c.id_of-owner.result) c.loop-component.from (length t'.rows) c.in-Some.component found ∙ rw (sym c.is_due.ensures ∙ c.if-is_due.true))
+    ∙ c.loop-component.invariant.1
 
 pub has_due-overflow_add-from : goal.has_due-overflow_add-from
 has_due-overflow_add-from t c =
     let a = c.args in
-    let found = found-next (table_in a.state.now) c.id_of-owner.result c.row_count-end.result c.loop-from.invariant.1 c.loop-from.from _ _ c.next_component.ensures c.in-Some.is in
-    let bounds = sweep-bounds {S = ℕ} (λ k s. done s) (is_one (table_in a.state.now) c.id_of-owner.result) c.loop-from.from c.row_count-end.result 0 c.in-Some.component found in
-    let few = sizes-in a.state.now c.requires.0 in
-    omega (arith, bounds.1, c.loop-from.invariant.1, few.0)
+    let t' = table_in a.state.now in
+    let found = sym c.next_component.ensures ∙ c.in-Some.is in
+    let bounds = sweep-bounds {S = ℕ} (λ k s. done s) (is_one t' c.id_of-owner.result) c.loop-component.from (length t'.rows) 0 c.in-Some.component found in
+    omega (arith, bounds.1, (sizes-in a.state.now c.requires.0).0)
 
-pub has_due-loop-from-smaller : goal.has_due-loop-from-smaller
-has_due-loop-from-smaller t c =
+pub has_due-loop-component-smaller : goal.has_due-loop-component-smaller
+has_due-loop-component-smaller t c =
     let a = c.args in
-    let found = found-next (table_in a.state.now) c.id_of-owner.result c.row_count-end.result c.loop-from.invariant.1 c.loop-from.from _ _ c.next_component.ensures c.in-Some.is in
-    let bounds = sweep-bounds {S = ℕ} (λ k s. done s) (is_one (table_in a.state.now) c.id_of-owner.result) c.loop-from.from c.row_count-end.result 0 c.in-Some.component found in
+    let t' = table_in a.state.now in
+    let found = sym c.next_component.ensures ∙ c.in-Some.is in
+    let bounds = sweep-bounds {S = ℕ} (λ k s. done s) (is_one t' c.id_of-owner.result) c.loop-component.from (length t'.rows) 0 c.in-Some.component found in
     omega (arith, bounds.0, bounds.1)
 
-pub has_due-loop-from-preserved : goal.has_due-loop-from-preserved
-has_due-loop-from-preserved t c =
+pub has_due-loop-component-preserved : goal.has_due-loop-component-preserved
+has_due-loop-component-preserved t c =
     let a = c.args in
-    let f = due (table_in a.state.now) a.depth (states_in (table_in a.state.now) a.mem.now) in
-    let found = found-next (table_in a.state.now) c.id_of-owner.result c.row_count-end.result c.loop-from.invariant.1 c.loop-from.from _ _ c.next_component.ensures c.in-Some.is in (
-      c.loop-from.invariant.0,
-      c.loop-from.invariant.1,
-      sym (some-on f (is_one (table_in a.state.now) c.id_of-owner.result) c.loop-from.from c.row_count-end.result c.in-Some.component found ∙ rw (sym c.is_due.ensures ∙ c.if-is_due.false)) ∙ c.loop-from.invariant.2,
+    let t' = table_in a.state.now in
+    let found = sym c.next_component.ensures ∙ c.in-Some.is in (
+      c.loop-component.invariant.0,
+      sym (some-on (due t' a.depth (states_in t' a.mem.now)) (is_one t' c.id_of-owner.result) c.loop-component.from (length t'.rows) c.in-Some.component found ∙ rw (sym c.is_due.ensures ∙ c.if-is_due.false)) ∙ c.loop-component.invariant.1,
     )
 
 pub has_due-returns : goal.has_due-returns
 has_due-returns t c =
     let a = c.args in
-    sym (some_end (due (table_in a.state.now) a.depth (states_in (table_in a.state.now) a.mem.now)) (is_one (table_in a.state.now) c.id_of-owner.result) c.loop-from.from c.row_count-end.result c.loop-from-test.false)
-    ∙ c.loop-from.invariant.2
+    let t' = table_in a.state.now in
+    sym (some-none (due t' a.depth (states_in t' a.mem.now)) (is_one t' c.id_of-owner.result) c.loop-component.from (length t'.rows) (sym c.next_component.ensures ∙ c.in_default.is))
+    ∙ c.loop-component.invariant.1
 
 pub is_due-returns-then-depth-eq0 : goal.is_due-returns-then-depth-eq0
 is_due-returns-then-depth-eq0 t c =
     let a = c.args in
     sym (ap (λ (d : ℕ). due (table_in a.state.now) d (states_in (table_in a.state.now) a.mem.now) a.row) c.if-depth-eq0.true ∙ due-none (table_in a.state.now) (fine-in a.state.now c.requires.0) (states_in (table_in a.state.now) a.mem.now) c.requires.1.good.0 a.row)
 
-pub is_due-held_at-requires : goal.is_due-held_at-requires
-is_due-held_at-requires t c =
-    let a = c.args in
-    head-here (table_in a.state.now) a.mem.now a.row c.requires.2 c.requires.1.laid
-
 pub is_due-returns-then-held_at-gt0 : goal.is_due-returns-then-held_at-gt0
 is_due-returns-then-held_at-gt0 t c =
     let a = c.args in
     sym (due-held (table_in a.state.now) (fine-in a.state.now c.requires.0) a.mem.now c.requires.1 a.row c.requires.2 a.depth (let z = c.if-depth-eq0.false in omega arith) (sym c.is_coupled.ensures ∙ c.if-is_coupled.true)
     (let h = c.held_at.ensures in let z = c.if-held_at-gt0.true in omega arith))
-
-pub is_due-has_due-requires : goal.is_due-has_due-requires
-is_due-has_due-requires t c =
-    (search rules, (c.requires.0, c.requires.1, c.requires.2))
 
 pub is_due-returns-then-is_coupled : goal.is_due-returns-then-is_coupled
 is_due-returns-then-is_coupled t c =

@@ -17,13 +17,12 @@ decreases-has_due l = l.depth * 2 + 1
 abbrev pub decreases-is_due : goal.decreases-is_due
 decreases-is_due l = l.depth * 2
 
-abbrev pub invariant-has_due-loop-from : goal.invariant-has_due-loop-from
-invariant-has_due-loop-from l =
+abbrev pub invariant-has_due-loop-component : goal.invariant-has_due-loop-component
+invariant-has_due-loop-component l =
     (l.owner ≡ id_at (table_in l.state) l.row)
-    × (l.end ≡ length (table_in l.state).rows)
-    × (some_of (due (table_in l.state) l.depth (states_in (table_in l.state) l.mem)) (those (is_one (table_in l.state) l.owner) (Base.from l.from (l.end - l.from)))
+    × (some_of (due (table_in l.state) l.depth (states_in (table_in l.state) l.mem)) (those (is_one (table_in l.state) l.owner) (Base.from l.from (length (table_in l.state).rows - l.from)))
     ≡ some_of (due (table_in l.state) l.depth (states_in (table_in l.state) l.mem)) (components (table_in l.state) (id_at (table_in l.state) l.row)))
 
-abbrev pub decreases-has_due-loop-from : goal.decreases-has_due-loop-from
-decreases-has_due-loop-from l =
-    l.end - l.from
+abbrev pub decreases-has_due-loop-component : goal.decreases-has_due-loop-component
+decreases-has_due-loop-component l =
+    length (table_in l.state).rows - l.from
