@@ -1,5 +1,5 @@
 -- The laws of what a stored state is asked: the changing part as it is lent, a row's status by the kind that a reader names, and the search for a model without parent by its id. Assumes nothing.
-use Rattle.std.specs.Prelude.{ℕ, suc, ◌+◌, ◌-◌, ◌≤◌, ◌<◌, ◌≡◌, refl, Bool, List, [], ◌∷◌, length, take, drop, T, eqb, Float, None, Some, Option}
+use Rattle.std.specs.Prelude.{ℕ, suc, ◌+◌, ◌-◌, ◌≤◌, ◌<◌, ◌≡◌, refl, Bool, List, [], ◌∷◌, length, take, drop, T, eqb, None, Some}
 use Rattle.std.proofs.Common.{sym, ap, ◌∙◌, arith, le_of_eq, add-one, eq-eqb, ne_eqb, length-drop, take_all, length-take-le, leb→le}
 use Rattle.std.proofs.Math.Nat.{sub-zero}
 use Rattle.std.proofs.lemmas.List.{length-map}
@@ -9,15 +9,13 @@ use Rattle.rules.specs.Base.{those, from}
 use Rattle.rules.specs.Table as Table
 use Rattle.rules.specs.Table.{Table, id_at, kind_at}
 use Rattle.rules.specs.Simulation.{State, state_at}
-use Rattle.rules.specs.Models.{durations, mean}
 use Rattle.rules.specs.Ends.{nil, ◌&◌}
-use Rattle.rules.specs.Calls as Calls
 use Rattle.rules.specs.Calls.{status_of, status_of_first, get_status}
 use Rattle.words.specs.Lists.{part_length}
 use Rattle.words.specs.Search.{first_from}
 use Rattle.words.specs.SearchLaws.{search-end, first-at, first-nothing}
 use Rattle.words.specs.Queue.{queue_in}
-use Rattle.marks.specs.Jobs.{jobs_in, mean_in}
+use Rattle.marks.specs.Jobs.{mean_in}
 use Rattle.marks.specs.MarkingLaws.{fit-rules}
 use Rattle.table.specs.declared.Kind.{Kind}
 use Rattle.table.specs.declared.Kind.TheVariants as kind

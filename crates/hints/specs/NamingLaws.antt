@@ -10,8 +10,7 @@ use Rattle.rules.specs.Table.{is_parent, is_parentless}
 use Rattle.rules.specs.Valid.{member}
 use Rattle.rules.specs.Layout.{cell, model_width, coupling_width, parent_in, kind_in}
 use Rattle.words.specs.declared.Cell.{Cell}
-use Rattle.words.specs.declared.Key.{Key}
-use Rattle.words.specs.Search.{first_from, matches, next_row}
+use Rattle.words.specs.Search.{cell_of, first_from, matches, next_row}
 use Rattle.words.specs.SearchLaws.{is_found, first-at, first-nothing, first_some, next-row-first}
 use Rattle.table.specs.declared.Kind.{Kind}
 use Rattle.table.specs.declared.Kind.TheVariants.{Coupled}
@@ -86,10 +85,9 @@ abbrev pub kind_number : Side → ℕ
 kind_number In = 1
 kind_number Out = 2
 
-abbrev pub port_key : Side → ℕ → ℕ → Key
+abbrev pub port_key : Side → ℕ → ℕ → List Cell
 port_key side owner port =
-    let held : Cell = record { at = port_cell side; value = port } in
-    record { first = record { at = 0; value = owner }; second = record { at = 1; value = kind_number side }; third = held; fourth = held }
+    record { at = 0; value = owner } ∷ record { at = 1; value = kind_number side } ∷ record { at = port_cell side; value = port } ∷ []
 
 abbrev passes : (ℕ → Bool) → Option ℕ → Bool
 passes test None = false
@@ -107,40 +105,42 @@ some-chosen test choose f (k ∷ ks) = by (choose (f k)) (some-chosen test choos
 module _ (row : List ℕ) (owner port : ℕ) where
   -- what a key of this side asks of a row
   abbrev asks : Side → Bool
-  asks side = eqb (cell row 0) owner && eqb (cell row 1) (kind_number side) && eqb (cell row (port_cell side)) port && eqb (cell row (port_cell side)) port
+  asks side = eqb (cell row 0) owner && eqb (cell row 1) (kind_number side) && eqb (cell row (port_cell side)) port
 
-  hit : (o : Bool) (p : ℕ) → passes (λ p. eqb p port) (if o then Some p else None) ≡ (o && true && eqb p port && eqb p port)
+  hit : (o : Bool) (p : ℕ) → passes (λ p. eqb p port) (if o then Some p else None) ≡ (o && true && eqb p port)
   hit false p = refl
-  hit true p = by (eqb p port)
-    where
-      by : (b : Bool) → b ≡ b && b
-      by true = refl
-      by false = refl
+  hit true p = refl
 
-  miss : (o p : Bool) → false ≡ (o && false && p && p)
+  miss : (o p : Bool) → false ≡ (o && false && p)
   miss true p = refl
   miss false p = refl
 
   same : (side : Side) → passes (λ p. eqb p port) (port_from side owner (coupling_of row)) ≡ asks side
   same In = by (eqb (cell row 1) 1) (eqb (cell row 1) 2)
     where
-      by : (a b : Bool) → passes (λ p. eqb p port) (port_from In owner (if a then input_in row else if b then output_in row else inner_in row)) ≡ (eqb (cell row 0) owner && a && eqb (cell row 3) port && eqb (cell row 3) port)
+      by : (a b : Bool) → passes (λ p. eqb p port) (port_from In owner (if a then input_in row else if b then output_in row else inner_in row)) ≡ (eqb (cell row 0) owner && a && eqb (cell row 3) port)
       by true b = hit (eqb (cell row 0) owner) (cell row 3)
       by false true = miss (eqb (cell row 0) owner) (eqb (cell row 3) port)
       by false false = miss (eqb (cell row 0) owner) (eqb (cell row 3) port)
   same Out = by (eqb (cell row 1) 1) refl (eqb (cell row 1) 2) refl
     where
       by : (a : Bool) → eqb (cell row 1) 1 ≡ a → (b : Bool) → eqb (cell row 1) 2 ≡ b
-          → passes (λ p. eqb p port) (port_from Out owner (if a then input_in row else if b then output_in row else inner_in row)) ≡ (eqb (cell row 0) owner && b && eqb (cell row 5) port && eqb (cell row 5) port)
+          → passes (λ p. eqb p port) (port_from Out owner (if a then input_in row else if b then output_in row else inner_in row)) ≡ (eqb (cell row 0) owner && b && eqb (cell row 5) port)
       by true e true f = absurd (let x = eqb-true (cell row 1) 1 e in let y = eqb-true (cell row 1) 2 f in omega arith)
       by true e false f = miss (eqb (cell row 0) owner) (eqb (cell row 5) port)
       by false e true f = hit (eqb (cell row 0) owner) (cell row 5)
       by false e false f = miss (eqb (cell row 0) owner) (eqb (cell row 5) port)
 
+all_three : (a b c : Bool) → (a && b && c) ≡ (if a then (if b then (if c then true else false) else false) else false)
+all_three true true true = refl
+all_three true true false = refl
+all_three true false c = refl
+all_three false b c = refl
+
 module _ (couplings : List ℕ) (owner port : ℕ) where
   row-asks : (side : Side) (k : ℕ) → asks (row_of coupling_width couplings k) owner port side ≡ matches (port_key side owner port) coupling_width couplings k
-  row-asks In k = rw (row-cell coupling_width couplings k 0 (omega arith), row-cell coupling_width couplings k 1 (omega arith), row-cell coupling_width couplings k 3 (omega arith))
-  row-asks Out k = rw (row-cell coupling_width couplings k 0 (omega arith), row-cell coupling_width couplings k 1 (omega arith), row-cell coupling_width couplings k 5 (omega arith))
+  row-asks In k = rw (row-cell coupling_width couplings k 0 (omega arith), row-cell coupling_width couplings k 1 (omega arith), row-cell coupling_width couplings k 3 (omega arith)) (all_three (eqb (cell_of coupling_width couplings k 0) owner) (eqb (cell_of coupling_width couplings k 1) (kind_number In)) (eqb (cell_of coupling_width couplings k 3) port))
+  row-asks Out k = rw (row-cell coupling_width couplings k 0 (omega arith), row-cell coupling_width couplings k 1 (omega arith), row-cell coupling_width couplings k 5 (omega arith)) (all_three (eqb (cell_of coupling_width couplings k 0) owner) (eqb (cell_of coupling_width couplings k 1) (kind_number Out)) (eqb (cell_of coupling_width couplings k 5) port))
 
   searched : (side : Side) → next_row (port_key side owner port) coupling_width 0 (length couplings / coupling_width) couplings ≡ first_from (matches (port_key side owner port) coupling_width couplings) 0 (length couplings / coupling_width)
   searched In = rw sub-zero at (next-row-first (port_key In owner port) coupling_width 0 (length couplings / coupling_width) couplings refl (omega arith))

@@ -7,10 +7,10 @@ ghost use Rattle.rules.specs.Valid.{member};
 ghost use Rattle.words.specs.Search.{first_from};
 ghost use Rattle.table.specs.declared.Kind.TheVariants.{Coupled};
 ghost use Rattle.hints.specs.Naming.{ports_of, couplings_in, end_in, root_end_in, component_end_in};
-ghost use Rattle.hints.specs.NamingLaws.{is_named, is_parent_of, port_key};
+ghost use Rattle.hints.specs.NamingLaws.{is_named, is_parent_of};
 
 use table::{COUPLING_WIDTH, EXTERNAL_INPUT, EXTERNAL_OUTPUT, Kind, MODEL_WIDTH};
-use words::{Cell, Key};
+use words::Cell;
 
 // A port that takes messages, or one that puts them out.
 #[derive(Clone, Copy, Debug, PartialEq, Eq)]
@@ -53,34 +53,25 @@ fn is_one_of(port: u64, a: u16, b: u16, c: u16) -> bool
     a as u64 == port || b as u64 == port || c as u64 == port
 }
 
-// An external coupling of this owner that has the port as the owner's: an input takes at its source port, an output puts out at its target port.
-fn port_key(owner: u64, port: u64, side: Side) -> Key
-    ensures { result ≡ port_key side owner port }
-{
-    let (kind, at) = match side {
-        Side::In => (EXTERNAL_INPUT, 3),
-        Side::Out => (EXTERNAL_OUTPUT, 5),
-    };
-    let held = Cell { at, value: port };
-    Key {
-        first: Cell {
-            at: 0,
-            value: owner,
-        },
-        second: Cell { at: 1, value: kind },
-        third: held,
-        fourth: held,
-    }
-}
-
 // Whether a Coupled has the port, by its external couplings.
 #[tactic(auto, using(crate::proofs::Ends::ports))]
 fn coupled_has(couplings: &[u64], owner: u64, port: u64, side: Side) -> bool
     ensures { result ≡ member port (ports_of side (couplings_in couplings.now) owner Coupled) }
 {
-    let key = port_key(owner, port, side);
+    let (kind, at) = match side {
+        Side::In => (EXTERNAL_INPUT, 3),
+        Side::Out => (EXTERNAL_OUTPUT, 5),
+    };
+    let key = [
+        Cell {
+            at: 0,
+            value: owner,
+        },
+        Cell { at: 1, value: kind },
+        Cell { at, value: port },
+    ];
     let rows = couplings.len() / COUPLING_WIDTH;
-    words::next_row(couplings, COUPLING_WIDTH, 0, rows, key).is_some()
+    words::next_row(couplings, COUPLING_WIDTH, 0, rows, &key).is_some()
 }
 
 // Whether the model takes messages at the port, or puts them out there.

@@ -40,12 +40,6 @@ no-coupled (Table.batcher b) a e = other-kind (cc)
 no-coupled (Table.stopwatch q) a e = other-kind (cc)
 no-coupled Table.coupled a e = other-kind (cc)
 
-pub no-broken : (k : Table.Kind) → named k ≡ kind.Broken → ⊥
-no-broken (Table.processor q) e = other-kind (cc)
-no-broken (Table.batcher b) e = other-kind (cc)
-no-broken (Table.stopwatch q) e = other-kind (cc)
-no-broken Table.coupled e = other-kind (cc)
-
 -- ---- what the row's own event leaves of the other words
 pub frame-kind : (t : Table) (mem after : List ℕ) (i lo hi : ℕ) → i < length t.rows → Laid t mem → ((p : ℕ) → p < end_of t → (p < lo) ⊎ (hi ≤ p)) → (k : Table.Kind) → kind_at t i ≡ k → (b : ℕ) → begin_in mem i ≡ b
     → Own i b (width_of k) lo hi mem after → Frame t lo hi mem after

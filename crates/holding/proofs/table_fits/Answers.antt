@@ -1,5 +1,5 @@
 -- `holding::table_fits` meets its contract: the counts, the length, and what intake answers. Assumes nothing.
-use Rattle.holding.specs.WholeLaws.{table-short, many-rows, many-connectors, many-couplings, table-cut, table-says}
+use Rattle.holding.specs.WholeLaws.{table-short, many-rows, many-connectors, many-couplings, table-cut}
 use Rattle.holding.proofs.table_fits.Goals as goal
 
 pub returns-then-state-lt1542 : goal.returns-then-state-lt1542

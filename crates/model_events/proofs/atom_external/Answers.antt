@@ -20,7 +20,7 @@ use Rattle.lookup.specs.Inside.{table_in}
 use Rattle.lookup.specs.InsideLaws.{fine-in}
 use Rattle.views.specs.World.{Does, Frame}
 use Rattle.views.proofs.Lifts.{does-kind, row-kind}
-use Rattle.model_events.specs.OfKind.{is-processor, is-batcher, is-stopwatch, no-coupled, no-broken, frame-kind}
+use Rattle.model_events.specs.OfKind.{is-processor, is-batcher, is-stopwatch, no-coupled, frame-kind}
 use Rattle.model_events.proofs.atom_external.Goals as goal
 
 pub kind_of-requires : goal.kind_of-requires
@@ -67,8 +67,3 @@ pub returns-in-Coupled : goal.returns-in-Coupled
 returns-in-Coupled c =
     let a = c.args in
     record { does = absurd (no-coupled (kind_at (table_in a.state.now) a.row) c.requires.1 (sym c.kind_of.ensures ∙ c.in-Coupled.is)); frame = absurd (no-coupled (kind_at (table_in a.state.now) a.row) c.requires.1 (sym c.kind_of.ensures ∙ c.in-Coupled.is)) }
-
-pub returns-in-Broken : goal.returns-in-Broken
-returns-in-Broken c =
-    let a = c.args in
-    record { does = absurd (no-broken (kind_at (table_in a.state.now) a.row) (sym c.kind_of.ensures ∙ c.in-Broken.is)); frame = absurd (no-broken (kind_at (table_in a.state.now) a.row) (sym c.kind_of.ensures ∙ c.in-Broken.is)) }
