@@ -2,7 +2,7 @@
 // `external` and `internal` ask first what 20 asks. `external_rule` and `internal_rule` are 01's rule alone, for a caller that has asked.
 #![tactic(auto)]
 
-pub use batcher::{BatcherGone, BatcherState, BatcherTaken};
-pub use events::{Gone, Service, Taken, service_time};
-pub use processor::{ProcessorGone, ProcessorState, ProcessorTaken};
-pub use stopwatch::{Named, StopwatchGone, StopwatchState, StopwatchTaken};
+pub use batcher::BatcherState;
+pub use events::{Handed, Taken, service_time};
+pub use processor::{ProcessorState, Served};
+pub use stopwatch::StopwatchState;

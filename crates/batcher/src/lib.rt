@@ -10,7 +10,7 @@ ghost use Rattle.rules.specs.Models as Models;
 ghost use Rattle.rules.specs.Valid as Valid;
 ghost use Rattle.batcher.specs.Batching.{batcher_of, fresh, unchanged, kept_as, Took, Went};
 
-use events::Taken;
+use events::{Handed, Taken};
 use rules::{Batcher, BatcherPhase, Refusal};
 
 #[derive(Clone, Copy)]
@@ -18,20 +18,6 @@ pub struct BatcherState {
     pub phase: BatcherPhase,
     pub timer: f64,
     pub held: u64,
-}
-
-// What an external event hands back.
-#[derive(Clone, Copy)]
-pub struct BatcherTaken {
-    pub next: BatcherState,
-    pub answer: Taken,
-}
-
-// What an internal event hands back.
-#[derive(Clone, Copy)]
-pub struct BatcherGone {
-    pub next: BatcherState,
-    pub answer: Result<u64, Refusal>,
 }
 
 // The maximum, in its full width.
@@ -72,34 +58,34 @@ impl BatcherState {
         self.held <= 64
     }
 
-    fn refused(self, refusal: Refusal) -> BatcherTaken
+    fn refused(self, refusal: Refusal) -> Handed<Self, Taken>
         ensures { result ≡ unchanged self refusal }
     {
-        BatcherTaken {
+        Handed {
             next: self,
-            answer: Taken::Refused(refusal),
+            answer: Err(refusal),
         }
     }
 
     // The job is kept, in this phase and with this timer.
-    fn kept(self, phase: BatcherPhase, timer: f64) -> BatcherTaken
+    fn kept(self, phase: BatcherPhase, timer: f64) -> Handed<Self, Taken>
         ensures { result ≡ kept_as self phase timer }
     {
         if 64 <= self.held {
             return self.refused(Refusal::NoQueueRoom);
         }
-        BatcherTaken {
+        Handed {
             next: BatcherState {
                 phase,
                 timer,
                 held: self.held + 1,
             },
-            answer: Taken::Kept,
+            answer: Ok(Taken::Kept),
         }
     }
 
     // A job comes: 01's rule alone. That h + 1 is below m is asked without a sum that could wrap.
-    pub fn external_rule(self, row: Batcher) -> BatcherTaken
+    pub fn external_rule(self, row: Batcher) -> Handed<Self, Taken>
         ensures { (queue : List ℕ) (job : ℕ) → length queue ≡ self.held → Took self queue job result (Models.batcher_external row job (batcher_of self queue)) }
     {
         let m = size_of(row);
@@ -118,19 +104,19 @@ impl BatcherState {
     }
 
     // The timer has run out: 01's rule alone. That 2m is at most h is asked without a product that could wrap.
-    pub fn internal_rule(self, row: Batcher) -> BatcherGone
+    pub fn internal_rule(self, row: Batcher) -> Handed<Self, u64>
         ensures { (queue : List ℕ) → length queue ≡ self.held → Went self queue result (done (Models.batcher_internal row (batcher_of self queue))) }
     {
         let most = size_of(row);
         if self.held <= most {
-            return BatcherGone {
+            return Handed {
                 next: BatcherState::new(),
                 answer: Ok(self.held),
             };
         }
         let rest = self.held - most;
         if most <= rest {
-            return BatcherGone {
+            return Handed {
                 next: BatcherState {
                     phase: BatcherPhase::Release,
                     timer: 0.0,
@@ -139,7 +125,7 @@ impl BatcherState {
                 answer: Ok(most),
             };
         }
-        BatcherGone {
+        Handed {
             next: BatcherState {
                 phase: BatcherPhase::Batching,
                 timer: row.max_batch_time,
@@ -150,7 +136,7 @@ impl BatcherState {
     }
 
     // A job comes: 20, then the rule.
-    pub fn external(self, row: Batcher) -> BatcherTaken
+    pub fn external(self, row: Batcher) -> Handed<Self, Taken>
         ensures { (queue : List ℕ) (job : ℕ) → length queue ≡ self.held → T (every is_content queue) → Took self queue job result (Valid.batcher_external_call row job (batcher_of self queue)) }
     {
         if self.fits(row) {
@@ -160,13 +146,13 @@ impl BatcherState {
     }
 
     // The timer has run out: 20, then the rule.
-    pub fn internal(self, row: Batcher) -> BatcherGone
+    pub fn internal(self, row: Batcher) -> Handed<Self, u64>
         ensures { (queue : List ℕ) → length queue ≡ self.held → T (every is_content queue) → Went self queue result (Valid.batcher_internal_call row (batcher_of self queue)) }
     {
         if self.fits(row) {
             return self.internal_rule(row);
         }
-        BatcherGone {
+        Handed {
             next: self,
             answer: Err(Refusal::BadState),
         }

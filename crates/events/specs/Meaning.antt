@@ -6,8 +6,6 @@ use Rattle.rules.specs.Models as Models
 use Rattle.rules.specs.Models.{Fate}
 use Rattle.events.specs.declared.Taken.{Taken}
 use Rattle.events.specs.declared.Taken.TheVariants as taken
-use Rattle.events.specs.declared.Service.{Service}
-use Rattle.events.specs.declared.Service.TheVariants as service
 
 -- what an event hands back: the next state, or after a refusal the state as it was; and 01's number, or what came of it
 abbrev pub handed_back : {S R : Type 0} → S → Outcome (S × R) → S × Outcome R
@@ -20,27 +18,27 @@ placed (refused r) = refused r
 placed (done (next, place, what)) = done ((next, place), what)
 
 -- a service time, and the place after it
-abbrev pub service_of : Service → Outcome (Float × ℕ)
-service_of (service.Time x next) = done (x, next)
-service_of (service.Refused r) = refused r
+abbrev pub service_of : Result (Float × ℕ) Refusal → Outcome (Float × ℕ)
+service_of (Ok found) = done found
+service_of (Err r) = refused r
 
 -- what became of what came
-abbrev pub fate_of : Taken → Outcome Fate
-fate_of taken.Started = done Models.Started
-fate_of taken.Kept = done Models.Kept
-fate_of taken.Dropped = done Models.Dropped
-fate_of taken.Marked = done Models.Marked
-fate_of taken.Asked = done Models.Asked
-fate_of (taken.Refused r) = refused r
+abbrev pub fate_of : Result Taken Refusal → Outcome Fate
+fate_of (Ok taken.Started) = done Models.Started
+fate_of (Ok taken.Kept) = done Models.Kept
+fate_of (Ok taken.Dropped) = done Models.Dropped
+fate_of (Ok taken.Marked) = done Models.Marked
+fate_of (Ok taken.Asked) = done Models.Asked
+fate_of (Err r) = refused r
 
 -- the queue after it: a job that is started or kept stands behind the others
-abbrev pub queue_after : Taken → List ℕ → ℕ → List ℕ
-queue_after taken.Started queue job = queue ++ job ∷ []
-queue_after taken.Kept queue job = queue ++ job ∷ []
-queue_after taken.Dropped queue job = queue
-queue_after taken.Marked queue job = queue
-queue_after taken.Asked queue job = queue
-queue_after (taken.Refused r) queue job = queue
+abbrev pub queue_after : Result Taken Refusal → List ℕ → ℕ → List ℕ
+queue_after (Ok taken.Started) queue job = queue ++ job ∷ []
+queue_after (Ok taken.Kept) queue job = queue ++ job ∷ []
+queue_after (Ok taken.Dropped) queue job = queue
+queue_after (Ok taken.Marked) queue job = queue
+queue_after (Ok taken.Asked) queue job = queue
+queue_after (Err r) queue job = queue
 
 -- how many jobs go out, from the front of the queue
 abbrev pub count_of : Result ℕ Refusal → ℕ

@@ -24,24 +24,24 @@ zeros-contents zero = tt
 zeros-contents (suc n) = zeros-contents n
 
 -- ---- an answer is told by its meaning
-abbrev taken_of : Outcome Fate → Taken
-taken_of (done Models.Started) = taken.Started
-taken_of (done Models.Kept) = taken.Kept
-taken_of (done Models.Dropped) = taken.Dropped
-taken_of (done Models.Marked) = taken.Marked
-taken_of (done Models.Asked) = taken.Asked
-taken_of (done Models.Passed) = taken.Asked
-taken_of (refused r) = taken.Refused r
+abbrev taken_of : Outcome Fate → Result Taken Refusal
+taken_of (done Models.Started) = Ok taken.Started
+taken_of (done Models.Kept) = Ok taken.Kept
+taken_of (done Models.Dropped) = Ok taken.Dropped
+taken_of (done Models.Marked) = Ok taken.Marked
+taken_of (done Models.Asked) = Ok taken.Asked
+taken_of (done Models.Passed) = Ok taken.Asked
+taken_of (refused r) = Err r
 
-taken_back : (a : Taken) → taken_of (fate_of a) ≡ a
-taken_back taken.Started = refl
-taken_back taken.Kept = refl
-taken_back taken.Dropped = refl
-taken_back taken.Marked = refl
-taken_back taken.Asked = refl
-taken_back (taken.Refused r) = refl
+taken_back : (a : Result Taken Refusal) → taken_of (fate_of a) ≡ a
+taken_back (Ok taken.Started) = refl
+taken_back (Ok taken.Kept) = refl
+taken_back (Ok taken.Dropped) = refl
+taken_back (Ok taken.Marked) = refl
+taken_back (Ok taken.Asked) = refl
+taken_back (Err r) = refl
 
-pub same_taken : (a b : Taken) → fate_of a ≡ fate_of b → a ≡ b
+pub same_taken : (a b : Result Taken Refusal) → fate_of a ≡ fate_of b → a ≡ b
 same_taken a b h = sym (taken_back a) ∙ ap taken_of h ∙ taken_back b
 
 same_count : (queue : List ℕ) (m n : ℕ) → m ≤ length queue → n ≤ length queue → take m queue ≡ take n queue → m ≡ n

@@ -22,45 +22,46 @@ use Rattle.rules.specs.Sizes.{is_content}
 use Rattle.times.specs.Time.{is_timer}
 use Rattle.rules.specs.declared.ProcessorPhase.{ProcessorPhase}
 use Rattle.rules.specs.declared.ProcessorPhase.TheVariants as working
+use Rattle.events.specs.declared.Taken.{Taken}
 use Rattle.events.specs.declared.Taken.TheVariants as taken
 use Rattle.processor.specs.declared.ProcessorState.{ProcessorState}
-use Rattle.processor.specs.declared.ProcessorTaken.{ProcessorTaken}
+use Rattle.processor.specs.declared.Served.{Served}
 use Rattle.processor.specs.Processing.{processor_of, fresh, unchanged, resting, Took, Went}
 use Rattle.events.specs.Held.{none-held, some-held, one_more}
 
 -- an event that changes nothing, refused or dropped
-pub took-refused : (s : ProcessorState) (place : ℕ) (queue : List ℕ) (job : ℕ) (r : Refusal) (o : Outcome (Simulation.ProcessorState × ℕ × Fate)) → length queue ≡ s.held → o ≡ refused r → Took s place queue job (unchanged s place (taken.Refused r)) o
+pub took-refused : (s : ProcessorState) (place : ℕ) (queue : List ℕ) (job : ℕ) (r : Refusal) (o : Outcome (Simulation.ProcessorState × ℕ × Fate)) → length queue ≡ s.held → o ≡ refused r → Took s place queue job (unchanged s place (Err r)) o
 took-refused s place queue job r o e h = record { tells = rw h; holds = e }
 
 module _ (row : Processor) (services : List Float) (port job place : ℕ) (s : ProcessorState) (queue : List ℕ) (e : length queue ≡ s.held) where
-  pub other-port : (port ≡ row.input → ⊥) → Took s place queue job (unchanged s place (taken.Refused InvalidMessage)) (processor_external row services port job (processor_of s queue) place)
+  pub other-port : (port ≡ row.input → ⊥) → Took s place queue job (unchanged s place (Err InvalidMessage)) (processor_external row services port job (processor_of s queue) place)
   unfolding processor_external
   other-port h = record { tells = rw (ne_eqb _ _ h); holds = e }
 
   module _ (p : port ≡ row.input) where
-    pub empty-full : s.held ≡ row.queue_capacity → s.held ≡ 0 → Took s place queue job (unchanged s place (taken.Refused InvalidModelState)) (processor_external row services port job (processor_of s queue) place)
+    pub empty-full : s.held ≡ row.queue_capacity → s.held ≡ 0 → Took s place queue job (unchanged s place (Err InvalidModelState)) (processor_external row services port job (processor_of s queue) place)
     unfolding processor_external
     empty-full f z =
         let q : queue ≡ [] = none-held queue (e ∙ z) in
         record { tells = rw (eq-eqb _ _ p, eq-eqb _ _ (e ∙ f), q); holds = e }
 
-    pub full : s.held ≡ row.queue_capacity → (s.held ≡ 0 → ⊥) → Took s place queue job (unchanged s place taken.Dropped) (processor_external row services port job (processor_of s queue) place)
+    pub full : s.held ≡ row.queue_capacity → (s.held ≡ 0 → ⊥) → Took s place queue job (unchanged s place (Ok taken.Dropped)) (processor_external row services port job (processor_of s queue) place)
     unfolding processor_external
     full f z = record { tells = rw (eq-eqb _ _ p, eq-eqb _ _ (e ∙ f), some-held queue (λ l. z (sym e ∙ l))); holds = e }
 
-    pub no_room : (s.held ≡ row.queue_capacity → ⊥) → (s.held ≡ 0 → ⊥) → 64 ≤ s.held → Took s place queue job (unchanged s place (taken.Refused NoQueueRoom)) (processor_external row services port job (processor_of s queue) place)
+    pub no_room : (s.held ≡ row.queue_capacity → ⊥) → (s.held ≡ 0 → ⊥) → 64 ≤ s.held → Took s place queue job (unchanged s place (Err NoQueueRoom)) (processor_external row services port job (processor_of s queue) place)
     unfolding processor_external
     no_room f z m =
         let h : 64 ≤ length queue = omega arith in
         record { tells = rw (eq-eqb _ _ p, ne_eqb _ _ (λ l. f (sym e ∙ l)), some-held queue (λ l. z (sym e ∙ l)), le-ltb _ _ h); holds = e }
 
-    pub kept : (s.held ≡ row.queue_capacity → ⊥) → (s.held ≡ 0 → ⊥) → s.held < 64 → Took s place queue job (record { next = record { phase = s.phase; timer = s.timer; held = s.held + 1 }; place = place; answer = taken.Kept }) (processor_external row services port job (processor_of s queue) place)
+    pub kept : (s.held ≡ row.queue_capacity → ⊥) → (s.held ≡ 0 → ⊥) → s.held < 64 → Took s place queue job (record { next = record { phase = s.phase; timer = s.timer; held = s.held + 1 }; place = place; answer = Ok taken.Kept }) (processor_external row services port job (processor_of s queue) place)
     unfolding processor_external
     kept f z m =
         let h : length queue < 64 = omega arith in
         record { tells = rw (eq-eqb _ _ p, ne_eqb _ _ (λ l. f (sym e ∙ l)), some-held queue (λ l. z (sym e ∙ l)), lt-ltb _ _ h); holds = one_more queue job s.held e }
 
-    pub starts : (s.held ≡ row.queue_capacity → ⊥) → s.held ≡ 0 → (r : ProcessorTaken) → Took s place [] job r (start services job place) → Took s place queue job r (processor_external row services port job (processor_of s queue) place)
+    pub starts : (s.held ≡ row.queue_capacity → ⊥) → s.held ≡ 0 → (r : Served Taken) → Took s place [] job r (start services job place) → Took s place queue job r (processor_external row services port job (processor_of s queue) place)
     unfolding processor_external
     starts f z r h =
         let q : queue ≡ [] = none-held queue (e ∙ z) in
@@ -96,10 +97,10 @@ module _ (services : List Float) (place : ℕ) (s : ProcessorState) (queue : Lis
 
 -- ---- a job starts
 module _ (services : List Float) (place job : ℕ) (s : ProcessorState) where
-  pub started : (x : Float) (next : ℕ) → done (x, next) ≡ service services place → Took s place [] job (record { next = record { phase = working.Active; timer = x; held = 1 }; place = next; answer = taken.Started }) (start services job place)
+  pub started : (x : Float) (next : ℕ) → done (x, next) ≡ service services place → Took s place [] job (record { next = record { phase = working.Active; timer = x; held = 1 }; place = next; answer = Ok taken.Started }) (start services job place)
   started x next h = record { tells = rw (← h); holds = refl }
 
-  pub not-started : (r : Refusal) → refused r ≡ service services place → s.held ≡ 0 → Took s place [] job (unchanged s place (taken.Refused r)) (start services job place)
+  pub not-started : (r : Refusal) → refused r ≡ service services place → s.held ≡ 0 → Took s place [] job (unchanged s place (Err r)) (start services job place)
   not-started r h z = record { tells = rw (← h); holds = sym z }
 
 -- ---- what 20 asks

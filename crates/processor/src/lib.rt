@@ -11,7 +11,7 @@ ghost use Rattle.rules.specs.Models as Models;
 ghost use Rattle.rules.specs.Valid as Valid;
 ghost use Rattle.processor.specs.Processing.{processor_of, fresh, unchanged, resting, Took, Went};
 
-use events::{Service, Taken};
+use events::Taken;
 use rules::{Processor, ProcessorPhase, Refusal};
 
 #[derive(Clone, Copy)]
@@ -21,20 +21,12 @@ pub struct ProcessorState {
     pub held: u64,
 }
 
-// What an external event hands back: the next state, the next place in the service list, what became of the job.
+// What an event hands back: the next state and the next place in the service list, or both as they were after a refusal; and what came of the event.
 #[derive(Clone, Copy)]
-pub struct ProcessorTaken {
+pub struct Served<A> {
     pub next: ProcessorState,
     pub place: u64,
-    pub answer: Taken,
-}
-
-// What an internal event hands back.
-#[derive(Clone, Copy)]
-pub struct ProcessorGone {
-    pub next: ProcessorState,
-    pub place: u64,
-    pub answer: Result<u64, Refusal>,
+    pub answer: Result<A, Refusal>,
 }
 
 impl ProcessorState {
@@ -73,10 +65,10 @@ impl ProcessorState {
     }
 
     // The state as it was, with what became of the job.
-    fn told(self, place: u64, answer: Taken) -> ProcessorTaken
+    fn told(self, place: u64, answer: Result<Taken, Refusal>) -> Served<Taken>
         ensures { result ≡ unchanged self place answer }
     {
-        ProcessorTaken {
+        Served {
             next: self,
             place,
             answer,
@@ -84,24 +76,20 @@ impl ProcessorState {
     }
 
     // A job starts.
-    fn start(self, services: &[f64], place: u64) -> ProcessorTaken
+    fn start(self, services: &[f64], place: u64) -> Served<Taken>
         ensures { (job : ℕ) → self.held ≡ 0 → Took self place [] job result (Models.start services.now job place) }
     {
         match events::service_time(services, place) {
-            Service::Time(time, next) => ProcessorTaken {
+            Ok((time, next)) => Served {
                 next: ProcessorState {
                     phase: ProcessorPhase::Active,
                     timer: time,
                     held: 1,
                 },
                 place: next,
-                answer: Taken::Started,
+                answer: Ok(Taken::Started),
             },
-            Service::Refused(refusal) => ProcessorTaken {
-                next: self,
-                place,
-                answer: Taken::Refused(refusal),
-            },
+            Err(refusal) => self.told(place, Err(refusal)),
         }
     }
 
@@ -112,38 +100,38 @@ impl ProcessorState {
         services: &[f64],
         place: u64,
         port: u16,
-    ) -> ProcessorTaken
+    ) -> Served<Taken>
         ensures { (queue : List ℕ) (job : ℕ) → length queue ≡ self.held → Took self place queue job result (Models.processor_external row services.now port job (processor_of self queue) place) }
     {
         if port != row.input {
-            return self.told(place, Taken::Refused(Refusal::InvalidMessage));
+            return self.told(place, Err(Refusal::InvalidMessage));
         }
         if self.held == row.queue_capacity {
             if self.held == 0 {
-                return self.told(place, Taken::Refused(Refusal::InvalidModelState));
+                return self.told(place, Err(Refusal::InvalidModelState));
             }
-            return self.told(place, Taken::Dropped);
+            return self.told(place, Ok(Taken::Dropped));
         }
         if self.held == 0 {
             return self.start(services, place);
         }
         if 64 <= self.held {
-            return self.told(place, Taken::Refused(Refusal::NoQueueRoom));
+            return self.told(place, Err(Refusal::NoQueueRoom));
         }
         let phase = self.phase;
-        ProcessorTaken {
+        Served {
             next: ProcessorState {
                 phase,
                 timer: self.timer,
                 held: self.held + 1,
             },
             place,
-            answer: Taken::Kept,
+            answer: Ok(Taken::Kept),
         }
     }
 
     // The timer has run out: 01's rule alone.
-    pub fn internal_rule(self, services: &[f64], place: u64) -> ProcessorGone
+    pub fn internal_rule(self, services: &[f64], place: u64) -> Served<u64>
         ensures { (queue : List ℕ) → length queue ≡ self.held → Went self place queue result (Models.processor_internal services.now (processor_of self queue) place) }
     {
         let phase = self.phase;
@@ -154,7 +142,7 @@ impl ProcessorState {
     }
 
     // Active: the first job goes out. The timer is 0, so that the next one starts.
-    fn released(self, place: u64) -> ProcessorGone
+    fn released(self, place: u64) -> Served<u64>
         ensures { (queue : List ℕ) (services : List Float) → length queue ≡ self.held → Went self place queue result (Models.processor_internal_in working.Active services (processor_of self queue) place) }
     {
         if self.held == 0 {
@@ -164,10 +152,10 @@ impl ProcessorState {
     }
 
     // So many are left, and so many went out.
-    fn rests(held: u64, place: u64, out: u64) -> ProcessorGone
+    fn rests(held: u64, place: u64, out: u64) -> Served<u64>
         ensures { result ≡ resting held place out }
     {
-        ProcessorGone {
+        Served {
             next: ProcessorState {
                 phase: ProcessorPhase::Passive,
                 timer: 0.0,
@@ -179,18 +167,18 @@ impl ProcessorState {
     }
 
     // Passive: the next job starts, or there is none.
-    fn resumed(self, services: &[f64], place: u64) -> ProcessorGone
+    fn resumed(self, services: &[f64], place: u64) -> Served<u64>
         ensures { (queue : List ℕ) → length queue ≡ self.held → Went self place queue result (Models.processor_internal_in working.Passive services.now (processor_of self queue) place) }
     {
         if self.held == 0 {
-            return ProcessorGone {
+            return Served {
                 next: ProcessorState::new(),
                 place,
                 answer: Ok(0),
             };
         }
         match events::service_time(services, place) {
-            Service::Time(time, next) => ProcessorGone {
+            Ok((time, next)) => Served {
                 next: ProcessorState {
                     phase: ProcessorPhase::Active,
                     timer: time,
@@ -199,7 +187,7 @@ impl ProcessorState {
                 place: next,
                 answer: Ok(0),
             },
-            Service::Refused(refusal) => ProcessorGone {
+            Err(refusal) => Served {
                 next: self,
                 place,
                 answer: Err(refusal),
@@ -208,23 +196,23 @@ impl ProcessorState {
     }
 
     // A job comes: 20, then the rule.
-    pub fn external(self, row: Processor, services: &[f64], place: u64, port: u16) -> ProcessorTaken
+    pub fn external(self, row: Processor, services: &[f64], place: u64, port: u16) -> Served<Taken>
         ensures { (queue : List ℕ) (job : ℕ) → length queue ≡ self.held → T (every is_content queue) → Took self place queue job result (Valid.processor_external_call row services.now port job (processor_of self queue) place) }
     {
         if self.fits(row) {
             return self.external_rule(row, services, place, port);
         }
-        self.told(place, Taken::Refused(Refusal::BadState))
+        self.told(place, Err(Refusal::BadState))
     }
 
     // The timer has run out: 20, then the rule.
-    pub fn internal(self, row: Processor, services: &[f64], place: u64) -> ProcessorGone
+    pub fn internal(self, row: Processor, services: &[f64], place: u64) -> Served<u64>
         ensures { (queue : List ℕ) → length queue ≡ self.held → T (every is_content queue) → Went self place queue result (Valid.processor_internal_call row services.now (processor_of self queue) place) }
     {
         if self.fits(row) {
             return self.internal_rule(services, place);
         }
-        ProcessorGone {
+        Served {
             next: self,
             place,
             answer: Err(Refusal::BadState),

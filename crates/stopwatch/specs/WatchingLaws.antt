@@ -1,5 +1,5 @@
 -- The stopwatch on lent words is the rules' stopwatch. Assumes nothing.
-use Rattle.std.specs.Prelude.{ℕ, ◌≤◌, ◌<◌, ◌≡◌, Bool, not, ◌&&◌, List, [], ◌∷◌, T, leb, Float}
+use Rattle.std.specs.Prelude.{ℕ, ◌≤◌, ◌<◌, ◌≡◌, Bool, not, ◌&&◌, List, [], ◌∷◌, T, leb, Float, Ok, Err, Result, Option, None}
 use Rattle.std.proofs.Common.{arith, sym, subst}
 use Rattle.std.proofs.Math.Path.{refl}
 use Rattle.std.proofs.Math.Bool.{true, false}
@@ -20,15 +20,14 @@ use Rattle.rules.specs.Models.{marked, marked_state, Duration, fetched, duration
 use Rattle.rules.specs.Valid.{marks_rules, differ, names, model_fits, guarded_by, stopwatch_external_call, stopwatch_internal_call}
 use Rattle.marks.specs.declared.Mark.{Mark}
 use Rattle.marks.specs.declared.Mark.TheVariants.{Start, Stop}
-use Rattle.marks.specs.declared.Marking.{Marking}
-use Rattle.marks.specs.declared.Marking.TheVariants as marks
+use Rattle.marks.specs.declared.Unmarked.{Unmarked}
+use Rattle.marks.specs.declared.Unmarked.TheVariants as marks
 use Rattle.marks.specs.Jobs.{jobs_in, whole_in, fit_in, first_job, fetched_in}
 use Rattle.marks.specs.Marking.{marked_in}
 use Rattle.marks.specs.MarkingLaws.{mark_of, is_held, outcome_of, jobs-length, whole_says, refused-keeps, jobs-marked, Fit, fit-rules}
 use Rattle.stopwatch.specs.declared.StopwatchState.{StopwatchState}
-use Rattle.stopwatch.specs.declared.StopwatchTaken.{StopwatchTaken}
-use Rattle.stopwatch.specs.declared.StopwatchGone.{StopwatchGone}
-use Rattle.stopwatch.specs.declared.Named.TheVariants as named
+use Rattle.events.specs.declared.Handed.{Handed}
+use Rattle.events.specs.declared.Taken.{Taken}
 use Rattle.events.specs.Meaning.{handed_back, fate_of}
 use Rattle.stopwatch.specs.Watching.{stopwatch_of, fresh, fits_in, marked_as, marking, external_in, quiet, fetched_as, fetching, internal_from, internal_in, external_call_in, internal_call_in, names_of, Took, Went}
 
@@ -77,10 +76,10 @@ fits-words row s words h = go _ _ h
     go false b h = let z : ◌≡◌ {A = ℕ} 0 1 = cc in absurd (omega arith)
 
 -- ---- a mark
-marked-means : (s : StopwatchState) (words : List ℕ) (m : Marking) (after : List ℕ) → (is_held m ≡ false → after ≡ words) → (stopwatch_of (marked_as s m).next after, fate_of (marked_as s m).answer) ≡ handed_back (stopwatch_of s words) (marked_state (stopwatch_of s words) (outcome_of (m, after)))
-marked-means s words (marks.Held h) after same = refl
-marked-means s words marks.NoRoom after same = rw (same refl)
-marked-means s words marks.CutShort after same = rw (same refl)
+marked-means : (s : StopwatchState) (words : List ℕ) (m : Result ℕ Unmarked) (after : List ℕ) → (is_held m ≡ false → after ≡ words) → (stopwatch_of (marked_as s m).next after, fate_of (marked_as s m).answer) ≡ handed_back (stopwatch_of s words) (marked_state (stopwatch_of s words) (outcome_of (m, after)))
+marked-means s words (Ok h) after same = refl
+marked-means s words (Err marks.NoRoom) after same = rw (same refl)
+marked-means s words (Err marks.CutShort) after same = rw (same refl)
 
 module _ (row : Stopwatch) (clock : Float) (port job : ℕ) (s : StopwatchState) (words : List ℕ) (time : T (is_time clock)) (fit : Fit s.held words) where
   marking-means : (mark : Mark) → (stopwatch_of (marking mark job clock s words).0.next (marking mark job clock s words).1, fate_of (marking mark job clock s words).0.answer) ≡ handed_back (stopwatch_of s words) (marked_state (stopwatch_of s words) (marked (mark_of mark clock) job (jobs_in s.held words)))
@@ -101,14 +100,14 @@ module _ (row : Stopwatch) (clock : Float) (port job : ℕ) (s : StopwatchState)
 
 -- ---- the metric
 -- an answer with the words, and what it is to be: Passive, infinite, and so many names
-abbrev shown : StopwatchGone → List ℕ → Simulation.StopwatchState × Outcome (List ℕ)
+abbrev shown : Handed StopwatchState (Option ℕ) → List ℕ → Simulation.StopwatchState × Outcome (List ℕ)
 shown r words = (stopwatch_of r.next words, names_of r.answer)
 
 abbrev rested : StopwatchState → List ℕ → List ℕ → Simulation.StopwatchState × Outcome (List ℕ)
-rested s words jobs = (stopwatch_of (quiet s named.Nothing).next words, done jobs)
+rested s words jobs = (stopwatch_of (quiet s None).next words, done jobs)
 
 -- at most one job is named
-fetched-means : (metric : Metric) (s : StopwatchState) (words : List ℕ) (ds : List Duration) → shown (fetched_as s (first_job (fetched metric ds))) words ≡ rested s words (fetched metric ds)
+fetched-means : (metric : Metric) (s : StopwatchState) (words : List ℕ) (ds : List Duration) → shown (fetched_as s (Ok (first_job (fetched metric ds)))) words ≡ rested s words (fetched metric ds)
 fetched-means metric s words [] = refl
 fetched-means metric s words (d ∷ ds) = refl
 
@@ -157,9 +156,9 @@ took row clock port job s words = go (is_time clock && fits_in row s words) refl
         let o = not-both (fit_in s.held words) (model_fits (Table.stopwatch row) (Simulation.of_stopwatch (stopwatch_of s words))) (is_time clock) (stopwatch_external row clock port job (stopwatch_of s words)) h in
         record { tells = rw (h, o) }
 
-pub took-as : (row : Stopwatch) (clock : Float) (port job : ℕ) (s : StopwatchState) (words : List ℕ) (r : StopwatchTaken) (after : List ℕ) → (r, after) ≡ external_call_in row clock port job s words → Took row clock port job s words r after
+pub took-as : (row : Stopwatch) (clock : Float) (port job : ℕ) (s : StopwatchState) (words : List ℕ) (r : Handed StopwatchState Taken) (after : List ℕ) → (r, after) ≡ external_call_in row clock port job s words → Took row clock port job s words r after
 took-as row clock port job s words r after h =
-    subst (λ (x : StopwatchTaken × List ℕ). Took row clock port job s words x.0 x.1) (sym h) (took row clock port job s words)
+    subst (λ (x : Handed StopwatchState Taken × List ℕ). Took row clock port job s words x.0 x.1) (sym h) (took row clock port job s words)
 
 pub went : (row : Stopwatch) (s : StopwatchState) (words : List ℕ) → Went row s words (internal_call_in row s words)
 unfolding internal_call_in fits_in stopwatch_internal_call
@@ -173,8 +172,8 @@ went row s words = go (fits_in row s words) refl
         let o = not-fit (fit_in s.held words) (model_fits (Table.stopwatch row) (Simulation.of_stopwatch (stopwatch_of s words))) (done (stopwatch_internal row (stopwatch_of s words))) h in
         record { tells = rw (h, o) }
 
-pub went-as : (row : Stopwatch) (s : StopwatchState) (words : List ℕ) (r : StopwatchGone) → r ≡ internal_call_in row s words → Went row s words r
-went-as row s words r h = subst (λ (x : StopwatchGone). Went row s words x) (sym h) (went row s words)
+pub went-as : (row : Stopwatch) (s : StopwatchState) (words : List ℕ) (r : Handed StopwatchState (Option ℕ)) → r ≡ internal_call_in row s words → Went row s words r
+went-as row s words r h = subst (λ (x : Handed StopwatchState (Option ℕ)). Went row s words x) (sym h) (went row s words)
 
 -- ---- a new state is the rules' fresh one, whatever stands in the words
 pub fresh-is : (words : List ℕ) → stopwatch_of fresh words ≡ Simulation.fresh_stopwatch

@@ -4,8 +4,8 @@
 ghost use Rattle.std.specs.Prelude.{◌≡◌};
 ghost use Rattle.stopwatch.specs.Watching.{fresh, unchanged, quiet, fits_in, marking, external_in, fetching, internal_in, external_call_in, internal_call_in, Took, Went};
 
-use events::Taken;
-use marks::{Fetched, Mark, Marking};
+use events::{Handed, Taken};
+use marks::{CutShort, Mark, Unmarked};
 use rules::{Refusal, Stopwatch, StopwatchPhase};
 
 #[derive(Clone, Copy)]
@@ -13,28 +13,6 @@ pub struct StopwatchState {
     pub phase: StopwatchPhase,
     pub timer: f64,
     pub held: u64,
-}
-
-// What an external event hands back.
-#[derive(Clone, Copy)]
-pub struct StopwatchTaken {
-    pub next: StopwatchState,
-    pub answer: Taken,
-}
-
-// What goes out: the name of a job.
-#[derive(Clone, Copy)]
-pub enum Named {
-    Job(u64),
-    Nothing,
-    Refused(Refusal),
-}
-
-// What an internal event hands back.
-#[derive(Clone, Copy)]
-pub struct StopwatchGone {
-    pub next: StopwatchState,
-    pub answer: Named,
 }
 
 impl StopwatchState {
@@ -68,33 +46,33 @@ impl StopwatchState {
         marks::fit(words, self.held)
     }
 
-    fn refused(self, refusal: Refusal) -> StopwatchTaken
+    fn refused(self, refusal: Refusal) -> Handed<Self, Taken>
         ensures { result ≡ unchanged self refusal }
     {
-        StopwatchTaken {
+        Handed {
             next: self,
-            answer: Taken::Refused(refusal),
+            answer: Err(refusal),
         }
     }
 
     // The clock is set on the job.
-    fn mark(self, words: &mut [u64], job: u32, mark: Mark, clock: f64) -> StopwatchTaken
+    fn mark(self, words: &mut [u64], job: u32, mark: Mark, clock: f64) -> Handed<Self, Taken>
         ensures { (result, words.new) ≡ marking mark job clock self words.old }
     {
         match marks::set_mark(words, self.held, job as u64, mark, clock) {
-            Marking::Held(held) => {
+            Ok(held) => {
                 let phase = self.phase;
-                StopwatchTaken {
+                Handed {
                     next: StopwatchState {
                         phase,
                         timer: self.timer,
                         held,
                     },
-                    answer: Taken::Marked,
+                    answer: Ok(Taken::Marked),
                 }
             }
-            Marking::NoRoom => self.refused(Refusal::NoQueueRoom),
-            Marking::CutShort => self.refused(Refusal::BadState),
+            Err(Unmarked::NoRoom) => self.refused(Refusal::NoQueueRoom),
+            Err(Unmarked::CutShort) => self.refused(Refusal::BadState),
         }
     }
 
@@ -106,7 +84,7 @@ impl StopwatchState {
         port: u16,
         job: u32,
         words: &mut [u64],
-    ) -> StopwatchTaken
+    ) -> Handed<Self, Taken>
         ensures { (result, words.new) ≡ external_in row clock port job self words.old }
     {
         if port == row.start {
@@ -116,54 +94,53 @@ impl StopwatchState {
             return self.mark(words, job, Mark::Stop, clock);
         }
         if port == row.ask {
-            return StopwatchTaken {
+            return Handed {
                 next: StopwatchState {
                     phase: StopwatchPhase::JobFetch,
                     timer: 0.0,
                     held: self.held,
                 },
-                answer: Taken::Asked,
+                answer: Ok(Taken::Asked),
             };
         }
         self.refused(Refusal::InvalidMessage)
     }
 
     // The timer has run out: 01's rule alone.
-    pub fn internal_rule(self, row: Stopwatch, words: &[u64]) -> StopwatchGone
+    pub fn internal_rule(self, row: Stopwatch, words: &[u64]) -> Handed<Self, Option<u64>>
         ensures { result ≡ internal_in row self words.now }
     {
         let phase = self.phase;
         match phase {
-            StopwatchPhase::Passive => self.rests(Named::Nothing),
+            StopwatchPhase::Passive => self.rests(None),
             StopwatchPhase::JobFetch => self.fetch(row, words),
         }
     }
 
     // Passive and infinite again.
-    fn rests(self, answer: Named) -> StopwatchGone
-        ensures { result ≡ quiet self answer }
+    fn rests(self, name: Option<u64>) -> Handed<Self, Option<u64>>
+        ensures { result ≡ quiet self name }
     {
-        StopwatchGone {
+        Handed {
             next: StopwatchState {
                 phase: StopwatchPhase::Passive,
                 timer: times::never(),
                 held: self.held,
             },
-            answer,
+            answer: Ok(name),
         }
     }
 
     // In JobFetch: puts out the job of the metric, or nothing; 20 where the words are cut short.
-    fn fetch(self, row: Stopwatch, words: &[u64]) -> StopwatchGone
+    fn fetch(self, row: Stopwatch, words: &[u64]) -> Handed<Self, Option<u64>>
         ensures { result ≡ fetching row self words.now }
     {
         let metric = row.metric;
         match marks::fetch(words, self.held, metric) {
-            Fetched::Job(name) => self.rests(Named::Job(name)),
-            Fetched::Nothing => self.rests(Named::Nothing),
-            Fetched::CutShort => StopwatchGone {
+            Ok(name) => self.rests(name),
+            Err(CutShort) => Handed {
                 next: self,
-                answer: Named::Refused(Refusal::BadState),
+                answer: Err(Refusal::BadState),
             },
         }
     }
@@ -176,7 +153,7 @@ impl StopwatchState {
         port: u16,
         job: u32,
         words: &mut [u64],
-    ) -> StopwatchTaken
+    ) -> Handed<Self, Taken>
         ensures lays { (result, words.new) ≡ external_call_in row clock port job self words.old }
         ensures means { Took row clock port job self words.old result words.new }
     {
@@ -190,16 +167,16 @@ impl StopwatchState {
     }
 
     // The timer has run out: 20, then the rule.
-    pub fn internal(self, row: Stopwatch, words: &[u64]) -> StopwatchGone
+    pub fn internal(self, row: Stopwatch, words: &[u64]) -> Handed<Self, Option<u64>>
         ensures lays { result ≡ internal_call_in row self words.now }
         ensures means { Went row self words.now result }
     {
         if self.fits(row, words) {
             return self.internal_rule(row, words);
         }
-        StopwatchGone {
+        Handed {
             next: self,
-            answer: Named::Refused(Refusal::BadState),
+            answer: Err(Refusal::BadState),
         }
     }
 }

@@ -7,12 +7,12 @@ returns-then-self-eq0 c =
     let a = c.args in
     λ queue e. rw c.new.ensures (laws.resumed-none a.services.now a.place a.self queue e (search rules))
 
-pub returns-in-Time : goal.returns-in-Time
-returns-in-Time c =
+pub returns-in-Ok : goal.returns-in-Ok
+returns-in-Ok c =
     let a = c.args in
-    λ queue e. laws.resumed-one a.services.now a.place a.self queue e (search rules) _ _ (rw c.in-Time.is at c.service_time.ensures)
+    λ queue e. laws.resumed-one a.services.now a.place a.self queue e (search rules) _ _ (rw c.in-Ok.is at c.service_time.ensures)
 
-pub returns-in-Refused : goal.returns-in-Refused
-returns-in-Refused c =
+pub returns-in-Err : goal.returns-in-Err
+returns-in-Err c =
     let a = c.args in
-    λ queue e. laws.resumed-refused a.services.now a.place a.self queue e (search rules) _ (rw c.in-Refused.is at c.service_time.ensures)
+    λ queue e. laws.resumed-refused a.services.now a.place a.self queue e (search rules) _ (rw c.in-Err.is at c.service_time.ensures)

@@ -1,12 +1,12 @@
 use Rattle.processor.proofs.Laws as laws
 use Rattle.processor.proofs.ProcessorState.start.Goals as goal
 
-pub returns-in-Time : goal.returns-in-Time
-returns-in-Time c =
+pub returns-in-Ok : goal.returns-in-Ok
+returns-in-Ok c =
     let a = c.args in
-    λ job z. laws.started a.services.now a.place job a.self _ _ (rw c.in-Time.is at c.service_time.ensures)
+    λ job z. laws.started a.services.now a.place job a.self _ _ (rw c.in-Ok.is at c.service_time.ensures)
 
-pub returns-in-Refused : goal.returns-in-Refused
-returns-in-Refused c =
+pub returns-in-Err : goal.returns-in-Err
+returns-in-Err c =
     let a = c.args in
-    λ job z. laws.not-started a.services.now a.place job a.self _ (rw c.in-Refused.is at c.service_time.ensures) z
+    λ job z. rw c.told.ensures (laws.not-started a.services.now a.place job a.self _ (rw c.in-Err.is at c.service_time.ensures) z)

@@ -1,5 +1,6 @@
-use Rattle.stopwatch.specs.declared.Named.TheVariants as named
-use Rattle.stopwatch.specs.declared.StopwatchGone.{StopwatchGone}
+use Rattle.std.proofs.Common.{Err, Option, ℕ}
+use Rattle.events.specs.declared.Handed.{Handed}
+use Rattle.stopwatch.specs.declared.StopwatchState.{StopwatchState}
 use Rattle.rules.specs.declared.Refusal.TheVariants.{BadState}
 use Rattle.stopwatch.specs.Watching.{internal_call_in}
 use mathlib.Core.Path.{◌≡◌, sym, ◌∙◌}
@@ -16,4 +17,4 @@ pub returns : goal.returns
 unfolding internal_call_in
 returns c =
     let a = c.args in
-    let r : StopwatchGone = record { next = a.self; answer = named.Refused BadState } in let l : r ≡ internal_call_in a.row a.self a.words.now = rw (sym c.fits.ensures ∙ c.if-fits.false) in record { lays = l; means = laws.went-as a.row a.self a.words.now r l }
+    let r : Handed StopwatchState (Option ℕ) = record { next = a.self; answer = Err BadState } in let l : r ≡ internal_call_in a.row a.self a.words.now = rw (sym c.fits.ensures ∙ c.if-fits.false) in record { lays = l; means = laws.went-as a.row a.self a.words.now r l }

@@ -1,10 +1,10 @@
 use Rattle.stopwatch.proofs.StopwatchState.mark.Goals as goal
 
-pub returns-in-Held : goal.returns-in-Held
-returns-in-Held c = rw (← c.set_mark.ensures, c.in-Held.is)
+pub returns-in-Ok : goal.returns-in-Ok
+returns-in-Ok c = rw (← c.set_mark.ensures, c.in-Ok.is)
 
-pub returns-in-NoRoom : goal.returns-in-NoRoom
-returns-in-NoRoom c = rw (← c.set_mark.ensures, c.in-NoRoom.is, c.refused.ensures)
+pub returns-in-Err-NoRoom : goal.returns-in-Err-NoRoom
+returns-in-Err-NoRoom c = rw (← c.set_mark.ensures, c.in-Err-NoRoom.is, c.in-Err-NoRoom.field-0-is, c.refused.ensures)
 
-pub returns-in-CutShort : goal.returns-in-CutShort
-returns-in-CutShort c = rw (← c.set_mark.ensures, c.in-CutShort.is, c.refused-in-CutShort.ensures)
+pub returns-in-Err-CutShort : goal.returns-in-Err-CutShort
+returns-in-Err-CutShort c = rw (← c.set_mark.ensures, c.in-Err-CutShort.is, c.in-Err-CutShort.field-0-is, c.refused-in-Err-CutShort.ensures)
