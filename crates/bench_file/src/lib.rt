@@ -235,7 +235,7 @@ fn left_after(on: bool, left: usize) -> usize
 }
 
 // The number of the line that a row of a page was read from, rows counted from 0 and lines from 1; 0 where there is no such row.
-// kept: 0 and no None, since the theorems of Filing's `line_of` count so, and who prints a place asks for rows that stand.
+// kept: the theorem `row-stands` says of this number that the row stands there, and who asks has such a row: with an Option each would write `unwrap_or(0)`.
 pub fn line_of(text: &[u8], page: Page, row: usize) -> u64
     ensures { result ≡ line_of page row text.now }
 {
