@@ -1,6 +1,6 @@
 -- The rows of a slice one by one: how many omit the field, and the slice as the migration leaves it. Assumes nothing.
 use Rattle.std.specs.Prelude.{ℕ, zero, suc, ◌+◌, ◌/◌, ◌%◌, ◌≤◌, ◌<◌, ◌≡◌, refl, Bool, true, false, List, [], ◌∷◌, ◌++◌, map, T, length, set, take, drop, if◌then◌else◌}
-use Rattle.std.proofs.Common.{sym, ap, ◌∙◌, subst, append-nil, append_assoc, arith, ne_eqb, length-drop, length-set, drop_of_length-le, take_all, drop-drop}
+use Rattle.std.proofs.Common.{sym, ap, ◌∙◌, subst, append-nil, append_assoc, arith, ne_eqb, length-drop, length-set, drop_of_length-le, take_all, take_at, drop_at, drop-drop}
 use Rattle.rules.specs.Base.{those}
 use Rattle.rules.specs.Decides.{Decides, tells, reads, fails, ◌and◌, alone, below, same}
 use Rattle.rules.specs.Layout.{cut, rows_of, cell, omits_capacity, omitted_in}
@@ -104,6 +104,11 @@ counted-on start count counted total words row e f so_far =
     let here : counted ≡ counted_of (take 10 (drop start words)) = f ∙ ap counted_of e in
     let rest : omitted_in (drop 10 (drop start words)) ≡ omitted_in (drop (start + 10) words) = ap omitted_in (drop-drop 10 start words) in
     omega arith
+
+-- and so where the row is lent as a part of its own
+pub counted_part : (words row rest : List ℕ) → words ≡ row ++ rest → length row ≡ 10 → omitted_in words ≡ counted_of row + omitted_in rest
+counted_part words row rest e long =
+    ap omitted_in e ∙ counted_next (row ++ rest) ∙ rw (take_at row rest 10 long, drop_at row rest 10 long)
 
 pub counted-one : (row : List ℕ) → counted_of row ≤ 1
 counted-one row = by (omits_capacity row)

@@ -13,22 +13,13 @@ const WITHOUT_END: u64 = 0xFFFF_FFFF_FFFF_FFFF;
 fn omits(cells: &[u64]) -> bool
     ensures { result ≡ omits_capacity cells.now }
 {
-    if cells.len() != 10 {
-        return false;
-    }
-    if cells[1] != 1 {
-        return false;
-    }
-    if 7 < cells[2] {
-        return false;
-    }
-    cells[2] / 2 % 2 != 1
+    cells.len() == 10 && cells[1] == 1 && cells[2] <= 7 && cells[2] / 2 % 2 != 1
 }
 
 fn counted(cells: &[u64]) -> usize
     ensures { result ≡ counted_of cells.now }
 {
-    if omits(cells) { 1 } else { 0 }
+    usize::from(omits(cells))
 }
 
 // How many Processor rows omit `queue_capacity`.
@@ -36,10 +27,8 @@ pub fn omitted(models: &[u64]) -> usize
     ensures { result ≡ omitted_in models.now }
 {
     let mut count = 0;
-    let mut start = 0;
-    while 10 <= models.len() - start {
-        count += counted(&models[start..start + 10]);
-        start += 10;
+    for cells in models.chunks_exact(10) {
+        count += counted(cells);
     }
     count
 }
@@ -63,10 +52,8 @@ pub fn write_out(models: &mut [u64]) -> usize
     ensures writes { models.new ≡ written_out models.old }
 {
     let mut count = 0;
-    let mut start = 0;
-    while 10 <= models.len() - start {
-        count += write_row(&mut models[start..start + 10]);
-        start += 10;
+    for row in 0..models.len() / 10 {
+        count += write_row(&mut models[10 * row..10 * row + 10]);
     }
     count
 }

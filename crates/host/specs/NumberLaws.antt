@@ -24,13 +24,10 @@ use Rattle.asking.specs.declared.Status.TheVariants as status
 use Rattle.asking.specs.Told.{status_answered}
 use Rattle.simulation.specs.Answers.{count_told, time_told}
 use Rattle.trace_blocks.specs.Blocks.{six}
-use Rattle.trace_files.specs.declared.Written.{Written}
-use Rattle.trace_files.specs.declared.Written.TheVariants as written
-use Rattle.trace_files.specs.declared.Read.{Read}
-use Rattle.trace_files.specs.declared.Read.TheVariants as read
+use Rattle.trace_files.specs.declared.ReadError.TheVariants as read
 use Rattle.trace_files.specs.Files as Files
 use Rattle.trace_files.specs.Files.{reading_number}
-use Rattle.trace_files.specs.Answers.{written_is, read_is}
+use Rattle.trace_files.specs.Answers.{Written, Read, written_is, read_is}
 use Rattle.host.specs.Numbers.{answer_number, number_of, end_number, end_word, reported, report_after, said, status_after, count_after, time_after, intake_said, written_after, read_said}
 
 pub answer-is : {A : Type 0} (o : Outcome A) → answer_number (answered o) ≡ number_of o
@@ -151,12 +148,12 @@ clock-told time o told known e f = (ap clock_number (sym f ∙ e) ∙ clock-numb
 
 -- ---- a trace written: the number, and how many bytes
 abbrev written_number : Written → ℕ
-written_number (written.Bytes bytes) = 0
-written_number (written.Refused r) = number r
+written_number (Ok bytes) = 0
+written_number (Err r) = number r
 
 abbrev bytes_told : ℕ → Written → ℕ
-bytes_told before (written.Bytes bytes) = bytes
-bytes_told before (written.Refused r) = before
+bytes_told before (Ok bytes) = bytes
+bytes_told before (Err r) = before
 
 written-number : (o : Outcome (List ℕ)) → written_number (written_is o) ≡ number_of o
 written-number (refused r) = refl
@@ -172,14 +169,14 @@ written-told before o told known e f = (ap written_number (sym f ∙ e) ∙ writ
 
 -- ---- a trace read: the number, and the report
 abbrev number_of_read : Read → ℕ
-number_of_read (read.Rows count) = 0
-number_of_read (read.BadBlock block) = 14
-number_of_read read.NoRoom = 13
+number_of_read (Ok count) = 0
+number_of_read (Err (read.BadBlock block)) = 14
+number_of_read (Err read.NoRoom) = 13
 
 abbrev read_words : List ℕ → Read → List ℕ
-read_words report (read.Rows count) = reported count 0 0 report
-read_words report (read.BadBlock block) = reported 0 block 0 report
-read_words report read.NoRoom = reported 0 0 0 report
+read_words report (Ok count) = reported count 0 0 report
+read_words report (Err (read.BadBlock block)) = reported 0 block 0 report
+read_words report (Err read.NoRoom) = reported 0 0 0 report
 
 read_number : (r : Files.Reading) → number_of_read (read_is six r) ≡ reading_number r
 read_number (Files.read numbers) = refl

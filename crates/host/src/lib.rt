@@ -18,7 +18,7 @@ use asking::Status;
 use engine::{End, Report};
 use rules::{BatcherPhase, Message, ProcessorPhase, Refusal};
 use table::BadTable;
-use trace_files::{Read, Written};
+use trace_files::ReadError;
 
 // 0, or the refusal's number.
 fn answer_number(answer: Result<(), Refusal>) -> u32
@@ -303,11 +303,11 @@ pub fn jt_write_trace(rows: &[u64], start: u64, file: &mut [u8], written: &mut u
     ensures tells { written.new ≡ written_after written.old (write_trace six rows.now start (length file.old)) }
 {
     match trace_files::write_trace(rows, start, file) {
-        Written::Bytes(bytes) => {
+        Ok(bytes) => {
             *written = bytes as u64;
             0
         }
-        Written::Refused(refusal) => rules::number(refusal),
+        Err(refusal) => rules::number(refusal),
     }
 }
 
@@ -318,8 +318,8 @@ pub fn jt_read_trace(file: &[u8], start: u64, rows: &mut [u64], report: &mut [u6
     ensures tells { report.new ≡ read_said (read_trace six file.now start (length rows.old / 6)) report.old }
 {
     match trace_files::read_trace(file, start, rows) {
-        Read::Rows(count) => place(report, count as u64, 0, 0, 0),
-        Read::BadBlock(block) => place(report, 0, block as usize, 0, 14),
-        Read::NoRoom => place(report, 0, 0, 0, 13),
+        Ok(count) => place(report, count as u64, 0, 0, 0),
+        Err(ReadError::BadBlock(block)) => place(report, 0, block as usize, 0, 14),
+        Err(ReadError::NoRoom) => place(report, 0, 0, 0, 13),
     }
 }

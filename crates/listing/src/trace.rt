@@ -5,7 +5,6 @@ use crate::{course, input, room, say};
 use std::fs::File;
 use std::io;
 use std::io::{ErrorKind, Stderr, Write};
-use trace_files::Written;
 
 // The words of a full block: ten rows of six.
 const FULL: usize = 60;
@@ -87,13 +86,13 @@ pub(crate) fn finish(rows: &[u64], c: Course, settings: Settings) -> Course {
 fn put(rows: &[u64], c: Course, file: &File) -> Course {
     let mut blocks = [0; BYTES];
     match trace_files::write_trace(rows, c.blocks, &mut blocks) {
-        Written::Bytes(bytes) => {
+        Ok(bytes) => {
             if blocks.len() < bytes {
                 return c;
             }
             write(&blocks[0..bytes], c, file)
         }
-        Written::Refused(_) => {
+        Err(_) => {
             say::text(
                 c.rt.stderr(),
                 b"jambthrush: a trace has at most 4294967296 rows\n",

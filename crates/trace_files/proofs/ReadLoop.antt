@@ -2,7 +2,7 @@
 use Prim.Native.Nat.{ℕ, suc, ◌+◌, ◌-◌, ◌*◌, ◌/◌, ◌≤◌, ◌<◌}
 use Rattle.std.proofs.Math.Path.{◌≡◌, refl, ap}
 use Rattle.std.proofs.Common.{sym, subst, ◌∙◌, append-nil, append_assoc, zero-add, mul-le-mul_left, add-one, length-append, length-take, length-drop}
-use Rattle.std.specs.Prelude.{Bool, List, [], ◌∷◌, ◌++◌, length, take, drop, T, leb, eqb, if◌then◌else◌}
+use Rattle.std.specs.Prelude.{Bool, List, [], ◌∷◌, ◌++◌, length, take, drop, T, leb, eqb, if◌then◌else◌, Option, Some, None, Ok, Err}
 use Rattle.std.proofs.Math.Bool.{true, false}
 use Rattle.std.proofs.Math.Nat.{sub-zero, zero-div, mul-add-div, mul-div-le}
 use native.Mathlib.Omega.{arith}
@@ -13,15 +13,12 @@ use Rattle.rules.specs.Decides.{tells, is_false}
 use Rattle.words.specs.Lists.{part_length}
 use Rattle.words.specs.Laying.{over, laid, laid_more, laid-long}
 use Rattle.trace_blocks.specs.declared.BlockKind.{BlockKind}
-use Rattle.trace_blocks.specs.declared.Judged.{Judged}
-use Rattle.trace_blocks.specs.declared.Judged.TheVariants as block
 use Rattle.trace_blocks.specs.Blocks.{is_kind, count_in, judged, numbers_in, rows_in}
 use Rattle.trace_blocks.specs.Pairs.{numbers_out, count_out}
 use Rattle.trace_blocks.specs.BlockLaws.{good-decides, rows_long, kind-is}
-use Rattle.trace_files.specs.declared.Read.{Read}
-use Rattle.trace_files.specs.declared.Read.TheVariants.{Rows, BadBlock, NoRoom}
+use Rattle.trace_files.specs.declared.ReadError.TheVariants.{BadBlock, NoRoom}
 use Rattle.trace_files.specs.Files.{Reading, read, bad_block, no_room, block_at, ends_file, is_good, before, read_blocks, blocks_in, rows_after}
-use Rattle.trace_files.specs.Answers.{is_read, read_is}
+use Rattle.trace_files.specs.Answers.{Read, is_read, read_is}
 
 same_test : (a b m n : ℕ) → (a ≡ b → m ≡ n) → (m ≡ n → a ≡ b) → eqb a b ≡ eqb m n
 same_test a b m n f g = go (eqb m n) refl
@@ -32,19 +29,16 @@ same_test a b m n f g = go (eqb m n) refl
 
 -- ---- so many rows before an answer
 abbrev pub more_rows : ℕ → Read → Read
-more_rows n (Rows m) = Rows (n + m)
-more_rows n (BadBlock i) = BadBlock i
-more_rows n NoRoom = NoRoom
+more_rows n (Ok m) = Ok (n + m)
+more_rows n (Err e) = Err e
 
 none_more : (r : Read) → more_rows 0 r ≡ r
-none_more (Rows m) = ap Rows (zero-add m)
-none_more (BadBlock i) = refl
-none_more NoRoom = refl
+none_more (Ok m) = ap Ok (zero-add m)
+none_more (Err e) = refl
 
 more-more : (m n : ℕ) (r : Read) → more_rows m (more_rows n r) ≡ more_rows (m + n) r
-more-more m n (Rows k) = let e : m + (n + k) ≡ m + n + k = omega arith in ap Rows e
-more-more m n (BadBlock i) = refl
-more-more m n NoRoom = refl
+more-more m n (Ok k) = let e : m + (n + k) ≡ m + n + k = omega arith in ap Ok e
+more-more m n (Err e) = refl
 
 -- ---- numbers before what is read
 before-none : (r : Reading) → before [] r ≡ r
@@ -65,7 +59,7 @@ before-read xs no_room = refl
 -- a block's rows before an answer are so many rows
 rows_before : (kind : BlockKind) → is_kind kind ≡ true → (b : List ℕ) (r : Reading) → read_is kind (before (rows_in kind b) r) ≡ more_rows (count_in b) (read_is kind r)
 rows_before kind k b (read more) =
-    ap Rows (ap (λ (n : ℕ). n / kind.width) (length-append (rows_in kind b) more ∙ ap (λ (n : ℕ). n + length more) (rows_long kind b)) ∙ mul-add-div (kind-is kind k).wide (count_in b) (length more))
+    ap Ok (ap (λ (n : ℕ). n / kind.width) (length-append (rows_in kind b) more ∙ ap (λ (n : ℕ). n + length more) (rows_long kind b)) ∙ mul-add-div (kind-is kind k).wide (count_in b) (length more))
 rows_before kind k b (bad_block i) = refl
 rows_before kind k b no_room = refl
 
@@ -123,20 +117,20 @@ module _ (kind : BlockKind) (file : List ℕ) where
       (good-decides kind i (ends_file file i) (block_at file i))
       (λ g. let h = length-take 512 (drop (512 * i) file) in let d = length-drop (512 * i) file in omega (arith, g.long))
 
-  told-rows : (i n : ℕ) → judged kind i (ends_file file i) (block_at file i) ≡ block.Rows n → (is_good kind file i ≡ true) × (n ≡ count_in (block_at file i))
+  told-rows : (i n : ℕ) → judged kind i (ends_file file i) (block_at file i) ≡ Some n → (is_good kind file i ≡ true) × (n ≡ count_in (block_at file i))
   unfolding judged
   told-rows i n e = go (is_kind kind) (is_good kind file i) e
     where
-      go : (a b : Bool) → (if hold (a ∷ b ∷ []) then block.Rows (count_in (block_at file i)) else block.Bad) ≡ block.Rows n → (b ≡ true) × (n ≡ count_in (block_at file i))
+      go : (a b : Bool) → (if hold (a ∷ b ∷ []) then Some (count_in (block_at file i)) else None) ≡ Some n → (b ≡ true) × (n ≡ count_in (block_at file i))
       go true true e = (refl, cc)
       go true false e = let z : ◌≡◌ {A = ℕ} 0 1 = cc in absurd (omega arith)
       go false b e = let z : ◌≡◌ {A = ℕ} 0 1 = cc in absurd (omega arith)
 
-  told-bad : (i : ℕ) → is_kind kind ≡ true → judged kind i (ends_file file i) (block_at file i) ≡ block.Bad → is_good kind file i ≡ false
+  told-bad : (i : ℕ) → is_kind kind ≡ true → judged kind i (ends_file file i) (block_at file i) ≡ None → is_good kind file i ≡ false
   unfolding judged
   told-bad i k e = go (is_kind kind) (is_good kind file i) k e
     where
-      go : (a b : Bool) → a ≡ true → (if hold (a ∷ b ∷ []) then block.Rows (count_in (block_at file i)) else block.Bad) ≡ block.Bad → b ≡ false
+      go : (a b : Bool) → a ≡ true → (if hold (a ∷ b ∷ []) then Some (count_in (block_at file i)) else None) ≡ None → b ≡ false
       go true true k e = let z : ◌≡◌ {A = ℕ} 0 1 = cc in absurd (omega arith)
       go true false k e = refl
       go false b k e = let z : ◌≡◌ {A = ℕ} 0 1 = cc in absurd (omega arith)
@@ -151,26 +145,26 @@ module _ (kind : BlockKind) (file : List ℕ) where
       record { fits = omega arith; whole = sym (none_more (read_is kind (rest start room))) ∙ ap (λ (n : ℕ). more_rows 0 (read_is kind (rest start n))) (sym (sub-zero room)) }
 
   module _ (start room i rows : ℕ) (so : Judging start room i rows) where
-    pub judging-end : is_kind kind ≡ true → blocks_in file ≤ i → Rows rows ≡ read_is kind (rest start room)
+    pub judging-end : is_kind kind ≡ true → blocks_in file ≤ i → Ok rows ≡ read_is kind (rest start room)
     judging-end k l =
         let none : rows + 0 / kind.width ≡ rows = (let z = zero-div kind.width in omega arith) in
-        sym (so.whole ∙ ap (λ (r : Reading). more_rows rows (read_is kind r)) (rest-none i (room - rows) l) ∙ ap Rows none)
+        sym (so.whole ∙ ap (λ (r : Reading). more_rows rows (read_is kind r)) (rest-none i (room - rows) l) ∙ ap Ok none)
 
-    judging-bad : i < blocks_in file → is_good kind file i ≡ false → BadBlock i ≡ read_is kind (rest start room)
+    judging-bad : i < blocks_in file → is_good kind file i ≡ false → Err (BadBlock i) ≡ read_is kind (rest start room)
     judging-bad l b = sym (so.whole ∙ ap (λ (r : Reading). more_rows rows (read_is kind r)) (rest-bad i (room - rows) l b))
 
-    pub judging-cut : i < blocks_in file → length file - 512 * i < 512 → BadBlock i ≡ read_is kind (rest start room)
+    pub judging-cut : i < blocks_in file → length file - 512 * i < 512 → Err (BadBlock i) ≡ read_is kind (rest start room)
     judging-cut l m = judging-bad l (cut-bad i m)
 
-    module _ (k : is_kind kind ≡ true) (l : i < blocks_in file) (long : 512 ≤ length file - 512 * i) (answer : Judged) (e : answer ≡ judged kind i (eqb (length file - 512 * i) 512) (lent i)) where
-      pub judging-told : answer ≡ block.Bad → BadBlock i ≡ read_is kind (rest start room)
+    module _ (k : is_kind kind ≡ true) (l : i < blocks_in file) (long : 512 ≤ length file - 512 * i) (answer : Option ℕ) (e : answer ≡ judged kind i (eqb (length file - 512 * i) 512) (lent i)) where
+      pub judging-told : answer ≡ None → Err (BadBlock i) ≡ read_is kind (rest start room)
       judging-told b = judging-bad l (told-bad i k (sym (judged-is i long) ∙ sym e ∙ b))
 
-      module _ (n : ℕ) (a : answer ≡ block.Rows n) where
+      module _ (n : ℕ) (a : answer ≡ Some n) where
         good : (is_good kind file i ≡ true) × (n ≡ count_in (block_at file i))
         good = told-rows i n (sym (judged-is i long) ∙ sym e ∙ a)
 
-        pub judging-full : room - rows < n → NoRoom ≡ read_is kind (rest start room)
+        pub judging-full : room - rows < n → Err NoRoom ≡ read_is kind (rest start room)
         judging-full m = sym (so.whole ∙ ap (λ (r : Reading). more_rows rows (read_is kind r)) (rest-full i (room - rows) l good.0 (omega (arith, good.1))))
 
         pub judging-more : n ≤ room - rows → Judging start room (i + 1) (rows + n)

@@ -1,10 +1,9 @@
 -- Computed files: of no rows, 1, 10, 11 and 12 rows; reading from block 1, from the end and past it; 13 before and after 14; how many bytes, and when a writer refuses; what is lent and answered after each. Assumes nothing.
-use Rattle.std.specs.Prelude.{ℕ, ◌*◌, ◌+◌, ◌-◌, ◌^◌, ◌≡◌, refl, List, [], ◌∷◌, ◌++◌, map, length, set, take, drop}
+use Rattle.std.specs.Prelude.{ℕ, ◌*◌, ◌+◌, ◌-◌, ◌^◌, ◌≡◌, refl, List, [], ◌∷◌, ◌++◌, map, length, set, take, drop, Ok, Err}
 use Rattle.rules.specs.Base.{refused, done, from}
 use Rattle.rules.specs.declared.Refusal.TheVariants.{NoOutRoom}
 use Rattle.trace_blocks.specs.Blocks.{six, word_at, block_of, words_of, body_of, check_of, is_block, number_at}
-use Rattle.trace_files.specs.declared.Written.TheVariants.{Bytes, Refused}
-use Rattle.trace_files.specs.declared.Read.TheVariants.{Rows, BadBlock, NoRoom}
+use Rattle.trace_files.specs.declared.ReadError.TheVariants.{BadBlock, NoRoom}
 use Rattle.trace_files.specs.Files.{joined, file_from, file_of, trace_bytes, write_trace, file_after, read, bad_block, no_room, block_at, read_blocks, read_trace, reading_number, rows_after}
 use Rattle.trace_files.specs.Answers.{written_is, read_is}
 
@@ -115,13 +114,13 @@ no_whole = refl
 file-after : map (file_after (8 ∷ 8 ∷ 8 ∷ [])) (done (1 ∷ 2 ∷ []) ∷ done [] ∷ refused NoOutRoom ∷ []) ≡ (1 ∷ 2 ∷ 8 ∷ []) ∷ (8 ∷ 8 ∷ 8 ∷ []) ∷ (8 ∷ 8 ∷ 8 ∷ []) ∷ []
 file-after = refl
 
-written-told : map written_is (done (1 ∷ 2 ∷ []) ∷ done [] ∷ refused NoOutRoom ∷ []) ≡ Bytes 2 ∷ Bytes 0 ∷ Refused NoOutRoom ∷ []
+written-told : map written_is (done (1 ∷ 2 ∷ []) ∷ done [] ∷ refused NoOutRoom ∷ []) ≡ Ok 2 ∷ Ok 0 ∷ Err NoOutRoom ∷ []
 written-told = refl
 
 rows-after : map (rows_after (8 ∷ 8 ∷ 8 ∷ [])) (read (1 ∷ 2 ∷ []) ∷ read [] ∷ bad_block 5 ∷ no_room ∷ []) ≡ (1 ∷ 2 ∷ 8 ∷ []) ∷ (8 ∷ 8 ∷ 8 ∷ []) ∷ (8 ∷ 8 ∷ 8 ∷ []) ∷ (8 ∷ 8 ∷ 8 ∷ []) ∷ []
 rows-after = refl
 
-read_told : map (read_is six) (read (rows 2) ∷ read [] ∷ bad_block 5 ∷ no_room ∷ []) ≡ Rows 2 ∷ Rows 0 ∷ BadBlock 5 ∷ NoRoom ∷ []
+read_told : map (read_is six) (read (rows 2) ∷ read [] ∷ bad_block 5 ∷ no_room ∷ []) ≡ Ok 2 ∷ Ok 0 ∷ Err (BadBlock 5) ∷ Err NoRoom ∷ []
 read_told = refl
 
 read-numbers : map reading_number (read (rows 2) ∷ bad_block 5 ∷ no_room ∷ []) ≡ 0 ∷ 14 ∷ 13 ∷ []

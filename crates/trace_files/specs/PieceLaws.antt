@@ -1,5 +1,5 @@
 -- How many pieces it takes to hold n, at so many apiece: by what is left over, never more than n, what stands before and in the last, and that a common width cancels. Assumes nothing.
-use Rattle.std.specs.Prelude.{ℕ, zero, suc, ◌+◌, ◌-◌, ◌*◌, ◌/◌, ◌%◌, ◌≤◌, ◌<◌, ◌≡◌}
+use Rattle.std.specs.Prelude.{ℕ, zero, suc, ◌+◌, ◌-◌, ◌*◌, ◌/◌, ◌%◌, ◌≤◌, ◌<◌, min, ◌≡◌, refl}
 use Rattle.std.proofs.Common.{sym, ap, ◌∙◌, mod-lt, div-add-mod', div-mul-le_self, le-div_iff_mul-le, arith}
 use Rattle.std.proofs.Math.Nat.{lt-div-mul-add, div-eq_of_lt, div-eq_of_lt-le, div-div-eq-div-mul, mul-add-div_right}
 use Rattle.trace_files.specs.Files.{pieces}
@@ -12,6 +12,14 @@ pieces-over each n l e =
     let h = div-add-mod' n each in
     let m : n % each < each = mod-lt n l in
     div-eq_of_lt-le each (omega arith) (omega arith)
+
+-- by the quotient rounded up
+pub pieces-ceil : (each n : ℕ) → 1 ≤ each → n / each + min 1 (n % each) ≡ pieces each n
+pieces-ceil each n l = go (n % each) refl
+  where
+    go : (r : ℕ) → n % each ≡ r → n / each + min 1 (n % each) ≡ pieces each n
+    go zero e = omega (arith, pieces-even each n l e)
+    go (suc r) e = omega (arith, pieces-over each n l (λ z. omega arith))
 
 pub pieces-most : (each n : ℕ) → 1 ≤ each → pieces each n ≤ n
 pieces-most zero n l = absurd (omega arith)

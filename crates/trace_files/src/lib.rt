@@ -8,19 +8,11 @@ ghost use Rattle.trace_files.specs.Files.{pieces, full_of, file_from, trace_byte
 ghost use Rattle.trace_files.specs.Answers.{written_is, is_read, read_is};
 
 use rules::Refusal;
-use trace_blocks::{BlockKind, Judged};
+use trace_blocks::BlockKind;
 
-// What a writer answers: how many bytes the blocks have.
+// Why a file is not read: the first bad block's number (14), or the rows do not fit (13).
 #[derive(Clone, Copy)]
-pub enum Written {
-    Bytes(usize),
-    Refused(Refusal),
-}
-
-// What a reader answers: how many rows; the first bad block's number (14); or that the rows do not fit (13).
-#[derive(Clone, Copy)]
-pub enum Read {
-    Rows(usize),
+pub enum ReadError {
     BadBlock(u64),
     NoRoom,
 }
@@ -33,11 +25,7 @@ fn pieces_of(each: usize, n: usize) -> usize
     requires { 1 ≤ each }
     ensures { result ≡ pieces each n }
 {
-    if n % each == 0 {
-        n / each
-    } else {
-        n / each + 1
-    }
+    n.div_ceil(each)
 }
 
 // How many bytes the blocks of so many numbers of rows have; 0 where there are too many.
@@ -58,11 +46,7 @@ fn part_end(full: usize, from: usize, numbers: usize) -> usize
     requires { from ≤ numbers }
     ensures { result ≡ from + min full (numbers - from) }
 {
-    if full < numbers - from {
-        from + full
-    } else {
-        numbers
-    }
+    from + full.min(numbers - from)
 }
 
 // The blocks of whole rows, numbered from `start` on.
@@ -75,20 +59,18 @@ fn write_blocks(kind: BlockKind, rows: &[u64], start: u64, file: &mut [u8])
 {
     let full = kind.width * kind.most;
     let blocks = pieces_of(full, rows.len());
-    let mut i: usize = 0;
-    while i < blocks {
+    for i in 0..blocks {
         let from = full * i;
         let end = part_end(full, from, rows.len());
         let at = trace_blocks::BLOCK_BYTES * i;
         let next = at + trace_blocks::BLOCK_BYTES;
         let number = (start + i as u64) as u32;
         trace_blocks::write_block(kind, number, &rows[from..end], &mut file[at..next]);
-        i += 1;
     }
 }
 
 // The rows as blocks numbered from `start` on, at the start of `file`: how many bytes, or 13 and nothing is written.
-fn write_kind(kind: BlockKind, rows: &[u64], start: u64, file: &mut [u8]) -> Written
+fn write_kind(kind: BlockKind, rows: &[u64], start: u64, file: &mut [u8]) -> Result<usize, Refusal>
     requires { is_kind kind ≡ true }
     ensures answers { result ≡ written_is (write_trace kind rows.now start (length file.old)) }
     ensures leaves { file.new ≡ file_after file.old (write_trace kind rows.now start (length file.old)) }
@@ -97,49 +79,43 @@ fn write_kind(kind: BlockKind, rows: &[u64], start: u64, file: &mut [u8]) -> Wri
     let most = kind.most as u64;
     let count = rows.len() / width;
     if MOST_TRACED / most < start {
-        return Written::Refused(Refusal::NoOutRoom);
+        return Err(Refusal::NoOutRoom);
     }
     if MOST_TRACED - most * start < count as u64 {
-        return Written::Refused(Refusal::NoOutRoom);
+        return Err(Refusal::NoOutRoom);
     }
     let bytes = bytes_for(kind, rows.len());
     if file.len() < bytes {
-        return Written::Refused(Refusal::NoOutRoom);
+        return Err(Refusal::NoOutRoom);
     }
     write_blocks(kind, &rows[0..count * width], start, file);
-    Written::Bytes(bytes)
+    Ok(bytes)
 }
 
 // The blocks from block `start` on: how many rows they have, into room for so many.
-fn judge_blocks(kind: BlockKind, file: &[u8], start: usize, room: usize) -> Read
+fn judge_blocks(kind: BlockKind, file: &[u8], start: usize, room: usize) -> Result<usize, ReadError>
     requires { is_kind kind ≡ true }
     ensures { result ≡ read_is kind (read_blocks kind file.now (blocks_in file.now - start) start room) }
 {
     let blocks = pieces_of(trace_blocks::BLOCK_BYTES, file.len());
-    let mut i = start;
     let mut rows: usize = 0;
-    while i < blocks {
+    for i in start..blocks {
         let at = trace_blocks::BLOCK_BYTES * i;
         let left = file.len() - at;
         if left < trace_blocks::BLOCK_BYTES {
-            return Read::BadBlock(i as u64);
+            return Err(ReadError::BadBlock(i as u64));
         }
         let next = at + trace_blocks::BLOCK_BYTES;
         let ends = left == trace_blocks::BLOCK_BYTES;
-        match trace_blocks::judge_block(kind, i as u64, ends, &file[at..next]) {
-            Judged::Bad => {
-                return Read::BadBlock(i as u64);
-            }
-            Judged::Rows(count) => {
-                if room - rows < count {
-                    return Read::NoRoom;
-                }
-                rows += count;
-            }
+        let Some(count) = trace_blocks::judge_block(kind, i as u64, ends, &file[at..next]) else {
+            return Err(ReadError::BadBlock(i as u64));
+        };
+        if room - rows < count {
+            return Err(ReadError::NoRoom);
         }
-        i += 1;
+        rows += count;
     }
-    Read::Rows(rows)
+    Ok(rows)
 }
 
 // The rows of blocks that are good, and have room.
@@ -149,9 +125,8 @@ fn lay_blocks(kind: BlockKind, file: &[u8], start: usize, rows: &mut [u64])
     ensures { rows.new ≡ rows_after rows.old (read_blocks kind file.now (blocks_in file.now - start) start (length rows.old / kind.width)) }
 {
     let blocks = pieces_of(trace_blocks::BLOCK_BYTES, file.len());
-    let mut i = start;
     let mut count: usize = 0;
-    while i < blocks {
+    for i in start..blocks {
         let at = trace_blocks::BLOCK_BYTES * i;
         let next = at + trace_blocks::BLOCK_BYTES;
         let block = &file[at..next];
@@ -160,28 +135,22 @@ fn lay_blocks(kind: BlockKind, file: &[u8], start: usize, rows: &mut [u64])
         count += trace_blocks::count_in(block) as usize;
         let end = width * count;
         trace_blocks::read_numbers(block, &mut rows[from..end]);
-        i += 1;
     }
 }
 
-fn read_kind(kind: BlockKind, file: &[u8], start: u64, rows: &mut [u64]) -> Read
+fn read_kind(kind: BlockKind, file: &[u8], start: u64, rows: &mut [u64]) -> Result<usize, ReadError>
     requires { is_kind kind ≡ true }
     ensures answers { result ≡ read_is kind (read_trace kind file.now start (length rows.old / kind.width)) }
     ensures leaves { rows.new ≡ rows_after rows.old (read_trace kind file.now start (length rows.old / kind.width)) }
 {
     let width = kind.width;
     if ((file.len() / trace_blocks::BLOCK_BYTES) as u64) < start {
-        return Read::BadBlock(start);
+        return Err(ReadError::BadBlock(start));
     }
     let first = start as usize;
-    match judge_blocks(kind, file, first, rows.len() / width) {
-        Read::Rows(count) => {
-            lay_blocks(kind, file, first, rows);
-            Read::Rows(count)
-        }
-        Read::BadBlock(i) => Read::BadBlock(i),
-        Read::NoRoom => Read::NoRoom,
-    }
+    let count = judge_blocks(kind, file, first, rows.len() / width)?;
+    lay_blocks(kind, file, first, rows);
+    Ok(count)
 }
 
 // How many bytes the blocks of so many words of rows have: 0 where there is no whole row, and where there are more than 2^32.
@@ -192,7 +161,7 @@ pub fn trace_bytes(numbers: usize) -> usize
 }
 
 // Rows of six words as blocks numbered from `start` on: how many bytes, or 13 and nothing is written.
-pub fn write_trace(rows: &[u64], start: u64, file: &mut [u8]) -> Written
+pub fn write_trace(rows: &[u64], start: u64, file: &mut [u8]) -> Result<usize, Refusal>
     ensures answers { result ≡ written_is (write_trace six rows.now start (length file.old)) }
     ensures leaves { file.new ≡ file_after file.old (write_trace six rows.now start (length file.old)) }
 {
@@ -200,7 +169,7 @@ pub fn write_trace(rows: &[u64], start: u64, file: &mut [u8]) -> Written
 }
 
 // The rows of a whole file from block `start` on: how many, or 14 with the bad block's number, or 13; refused, nothing is written.
-pub fn read_trace(file: &[u8], start: u64, rows: &mut [u64]) -> Read
+pub fn read_trace(file: &[u8], start: u64, rows: &mut [u64]) -> Result<usize, ReadError>
     ensures answers { result ≡ read_is six (read_trace six file.now start (length rows.old / 6)) }
     ensures leaves { rows.new ≡ rows_after rows.old (read_trace six file.now start (length rows.old / 6)) }
 {

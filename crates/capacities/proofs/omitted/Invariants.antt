@@ -1,12 +1,13 @@
 -- `capacities::omitted` meets its contract. The invariant: the count and the count of the rows left are that of all. Assumes nothing.
-use Prim.Native.Nat.{◌+◌, ◌-◌, ◌≤◌}
-use mathlib.Core.Path.{◌≡◌}
-use lib.ListN.{length, drop}
+use Rattle.std.proofs.Common.{◌≡◌, ◌+◌, ◌≤◌, length}
+use Rattle.std.specs.Slice.Iter.{chunks_exact_rest, chunks_exact_size}
 use Rattle.rules.specs.Layout.{omitted_in}
 use Rattle.capacities.proofs.omitted.Given as goal
 
-abbrev pub invariant-loop-start : goal.invariant-loop-start
-invariant-loop-start l = (l.start ≤ length l.models) × (l.count ≤ l.start) × (l.count + omitted_in (drop l.start l.models) ≡ omitted_in l.models)
-
-abbrev pub decreases-loop-start : goal.decreases-loop-start
-decreases-loop-start l = length l.models - l.start
+abbrev pub invariant-loop-cells : goal.invariant-loop-cells
+invariant-loop-cells l =
+    (goal.iterator-loop-cells).can_next l.cells-iterator
+    × (goal.iterator-loop-cells).is_finite l.cells-iterator
+    × (chunks_exact_size l.cells-iterator ≡ 10)
+    × (l.count + length (chunks_exact_rest l.cells-iterator) ≤ length l.models)
+    × (l.count + omitted_in (chunks_exact_rest l.cells-iterator) ≡ omitted_in l.models)

@@ -1,5 +1,7 @@
 -- `trace_files::judge_blocks` meets its contract. The loop's invariant: the rows so far stand before the answer of the blocks from block i on. Assumes nothing.
+use Rattle.std.specs.Prelude.{◌≡◌, None}
 use native.Mathlib.Omega.{arith}
+use borrow.Author.Rules.{rules}
 use lib.ListN.{length}
 use Rattle.trace_files.specs.PieceLaws.{piece_inside}
 use Rattle.trace_files.proofs.ReadLoop.{judging-start, judging-cut, judging-told, judging-full, judging-more, judging-end}
@@ -25,10 +27,11 @@ returns-then-left-lt-BLOCK_BYTES c =
     let a = c.args in
     judging-cut a.kind a.file.now a.start a.room c.loop-i.i c.loop-i.rows c.loop-i.invariant (omega (arith, c.pieces_of-blocks.ensures)) c.if-left-lt-BLOCK_BYTES.true
 
-pub returns-in-Bad : goal.returns-in-Bad
-returns-in-Bad c =
+pub returns-in_default : goal.returns-in_default
+returns-in_default c =
     let a = c.args in
-    judging-told a.kind a.file.now a.start a.room c.loop-i.i c.loop-i.rows c.loop-i.invariant c.requires (omega (arith, c.pieces_of-blocks.ensures, c.loop-i-test.true)) c.if-left-lt-BLOCK_BYTES.false c.judge_block.result c.judge_block.ensures c.in-Bad.is
+    let none : c.judge_block.result ≡ None = search rules in
+    judging-told a.kind a.file.now a.start a.room c.loop-i.i c.loop-i.rows c.loop-i.invariant c.requires (omega (arith, c.pieces_of-blocks.ensures, c.loop-i-test.true)) c.if-left-lt-BLOCK_BYTES.false c.judge_block.result c.judge_block.ensures none
 
 pub overflow_sub-room : goal.overflow_sub-room
 overflow_sub-room c =
@@ -37,21 +40,17 @@ overflow_sub-room c =
 pub returns-then-room-rows : goal.returns-then-room-rows
 returns-then-room-rows c =
     let a = c.args in
-    judging-full a.kind a.file.now a.start a.room c.loop-i.i c.loop-i.rows c.loop-i.invariant c.requires (omega (arith, c.pieces_of-blocks.ensures, c.loop-i-test.true)) c.if-left-lt-BLOCK_BYTES.false c.judge_block.result c.judge_block.ensures c.in-Rows.count c.in-Rows.is c.if-room-rows.true
+    judging-full a.kind a.file.now a.start a.room c.loop-i.i c.loop-i.rows c.loop-i.invariant c.requires (omega (arith, c.pieces_of-blocks.ensures, c.loop-i-test.true)) c.if-left-lt-BLOCK_BYTES.false c.judge_block.result c.judge_block.ensures c.in-Some.count c.in-Some.is c.if-room-rows.true
 
 pub overflow_add-rows : goal.overflow_add-rows
 overflow_add-rows c =
     let f = c.loop-i.invariant.fits in
     record { fits = omega (arith, c.ranges.room, c.if-room-rows.false) }
 
-pub loop-i-smaller : goal.loop-i-smaller
-loop-i-smaller c =
-    omega (arith, c.loop-i-test.true)
-
 pub loop-i-preserved : goal.loop-i-preserved
 loop-i-preserved c =
     let a = c.args in
-    judging-more a.kind a.file.now a.start a.room c.loop-i.i c.loop-i.rows c.loop-i.invariant c.requires (omega (arith, c.pieces_of-blocks.ensures, c.loop-i-test.true)) c.if-left-lt-BLOCK_BYTES.false c.judge_block.result c.judge_block.ensures c.in-Rows.count c.in-Rows.is c.if-room-rows.false
+    judging-more a.kind a.file.now a.start a.room c.loop-i.i c.loop-i.rows c.loop-i.invariant c.requires (omega (arith, c.pieces_of-blocks.ensures, c.loop-i-test.true)) c.if-left-lt-BLOCK_BYTES.false c.judge_block.result c.judge_block.ensures c.in-Some.count c.in-Some.is c.if-room-rows.false
 
 pub returns : goal.returns
 returns c =

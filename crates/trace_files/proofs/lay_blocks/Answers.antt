@@ -81,10 +81,6 @@ slice_bounds-read_numbers-end c =
     let s = laying-same a.kind a.file.now a.start c.loop-i.i c.loop-i.count a.rows.now c.loop-i.rows c.loop-i.invariant in
     search rules
 
-pub loop-i-smaller : goal.loop-i-smaller
-loop-i-smaller c =
-    omega (arith, c.loop-i-test.true)
-
 pub loop-i-preserved : goal.loop-i-preserved
 loop-i-preserved c =
     let a = c.args in

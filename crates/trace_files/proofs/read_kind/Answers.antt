@@ -1,12 +1,13 @@
 -- `trace_files::read_kind` meets its contract. Assumes nothing.
 use Prim.Native.Nat.{◌/◌}
-use mathlib.Core.Path.{sym, ap, ◌∙◌}
+use mathlib.Core.Path.{◌≡◌, sym, ap, ◌∙◌}
 use lib.ListN.{length}
+use borrow.Author.Rules.{rules}
 use Rattle.trace_files.specs.Files.{rows_after}
 use Rattle.trace_files.specs.Answers.{read_is}
 use Rattle.trace_blocks.specs.BlockLaws.{kind-is}
 use Rattle.trace_files.proofs.ReadLoop.{rest}
-use Rattle.trace_files.proofs.ReadTests.{past_end, in-file, rows-read, bad-keeps, full-keeps}
+use Rattle.trace_files.proofs.ReadTests.{past_end, in-file, rows-read, err-keeps}
 use Rattle.trace_files.proofs.read_kind.Goals as goal
 
 pub returns-then-file-start : goal.returns-then-file-start
@@ -22,22 +23,17 @@ nonzero_div-rows c =
 pub lay_blocks-requires : goal.lay_blocks-requires
 lay_blocks-requires c =
     let a = c.args in
-    record { kind = c.requires; good = rows-read a.kind c.judge_blocks.result (rest a.kind a.file.now a.start (length a.rows.now / a.kind.width)) c.in-Rows.count c.judge_blocks.ensures c.in-Rows.is }
+    record { kind = c.requires; good = rows-read a.kind c.judge_blocks.result (rest a.kind a.file.now a.start (length a.rows.now / a.kind.width)) c.in_ok-count.count c.judge_blocks.ensures c.in_ok-count.was }
 
-pub returns-in-Rows : goal.returns-in-Rows
-returns-in-Rows c =
+pub returns-in_err-count : goal.returns-in_err-count
+returns-in_err-count c =
     let a = c.args in
     let e = in-file a.kind a.file.now a.start (length a.rows.now / a.kind.width) c.if-file-start.false in
-    record { answers = sym c.in-Rows.is ∙ c.judge_blocks.ensures ∙ sym (ap (read_is a.kind) e); leaves = c.lay_blocks.ensures ∙ sym (ap (rows_after a.rows.now) e) }
+    let same : c.from_residual.result ≡ c.judge_blocks.result = search rules in
+    record { answers = same ∙ c.judge_blocks.ensures ∙ sym (ap (read_is a.kind) e); leaves = err-keeps a.kind c.judge_blocks.result a.rows.now (rest a.kind a.file.now a.start (length a.rows.now / a.kind.width)) c.in_err-count.field-0.0 c.judge_blocks.ensures c.in_err-count.was ∙ sym (ap (rows_after a.rows.now) e) }
 
-pub returns-in-BadBlock : goal.returns-in-BadBlock
-returns-in-BadBlock c =
+pub returns : goal.returns
+returns c =
     let a = c.args in
     let e = in-file a.kind a.file.now a.start (length a.rows.now / a.kind.width) c.if-file-start.false in
-    record { answers = sym c.in-BadBlock.is ∙ c.judge_blocks.ensures ∙ sym (ap (read_is a.kind) e); leaves = bad-keeps a.kind c.judge_blocks.result a.rows.now (rest a.kind a.file.now a.start (length a.rows.now / a.kind.width)) c.in-BadBlock.i c.judge_blocks.ensures c.in-BadBlock.is ∙ sym (ap (rows_after a.rows.now) e) }
-
-pub returns-in-NoRoom : goal.returns-in-NoRoom
-returns-in-NoRoom c =
-    let a = c.args in
-    let e = in-file a.kind a.file.now a.start (length a.rows.now / a.kind.width) c.if-file-start.false in
-    record { answers = sym c.in-NoRoom.is ∙ c.judge_blocks.ensures ∙ sym (ap (read_is a.kind) e); leaves = full-keeps a.kind c.judge_blocks.result a.rows.now (rest a.kind a.file.now a.start (length a.rows.now / a.kind.width)) c.judge_blocks.ensures c.in-NoRoom.is ∙ sym (ap (rows_after a.rows.now) e) }
+    record { answers = sym c.in_ok-count.was ∙ c.judge_blocks.ensures ∙ sym (ap (read_is a.kind) e); leaves = c.lay_blocks.ensures ∙ sym (ap (rows_after a.rows.now) e) }

