@@ -27,21 +27,11 @@ fn park_all(
     ensures frame { Frame (table_in state.now) 0 0 mem.old mem.new }
 {
     let owner = lookup::id_of(state, row);
-    let end = lookup::coupling_count(state);
     let mut from = 0;
-    while from < end {
-        match lookup::next_internal(state, from, owner, source, port) {
-            None => return Ok(()),
-            Some(coupling) => {
-                let to = lookup::coupling_target(state, coupling);
-                match parked_rows::park(mem, row, to.id, to.port, content) {
-                    Err(refusal) => return Err(refusal),
-                    Ok(()) => {
-                        from = coupling + 1;
-                    }
-                }
-            }
-        }
+    while let Some(coupling) = lookup::next_internal(state, from, owner, source, port) {
+        let to = lookup::coupling_target(state, coupling);
+        parked_rows::park(mem, row, to.id, to.port, content)?;
+        from = coupling + 1;
     }
     Ok(())
 }
@@ -61,23 +51,17 @@ fn put_all(
     ensures puts { Fills result at count (outs_from (table_in state.now) owner source port content) mem.old mem.new }
     ensures beside { Beside at mem.old mem.new }
 {
-    let end = lookup::coupling_count(state);
     let mut held = count;
     let mut from = 0;
-    while from < end {
-        match lookup::next_output(state, from, owner, source, port) {
-            None => return Ok(held),
-            Some(coupling) => {
-                if held == 256 {
-                    return Err(Refusal::NoMessageRoom);
-                }
-                let to = lookup::coupling_target(state, coupling);
-                let word = to.port * 0x1_0000_0000 + content as u64;
-                mem[at + held] = word;
-                held += 1;
-                from = coupling + 1;
-            }
+    while let Some(coupling) = lookup::next_output(state, from, owner, source, port) {
+        if held == 256 {
+            return Err(Refusal::NoMessageRoom);
         }
+        let to = lookup::coupling_target(state, coupling);
+        let word = to.port * 0x1_0000_0000 + content as u64;
+        mem[at + held] = word;
+        held += 1;
+        from = coupling + 1;
     }
     Ok(held)
 }
@@ -99,10 +83,7 @@ fn hand_one(
 {
     let owner = lookup::id_of(state, row);
     let source = lookup::id_of(state, component);
-    match park_all(state, mem, row, source, port, content) {
-        Err(refusal) => return Err(refusal),
-        Ok(()) => {}
-    }
+    park_all(state, mem, row, source, port, content)?;
     put_all(state, mem, owner, source, port, content, at, count)
 }
 
@@ -123,18 +104,11 @@ pub fn hand_all(
     ensures frame { Frame (table_in state.now) at (at + 256) mem.old mem.new }
 {
     let mut held = count;
-    let mut next = 0;
-    while next < messages {
+    for next in 0..messages {
         let word = mem[from + next];
         let port = word / 0x1_0000_0000;
         let content = (word % 0x1_0000_0000) as u32;
-        match hand_one(state, mem, row, component, port, content, at, held) {
-            Err(refusal) => return Err(refusal),
-            Ok(put) => {
-                held = put;
-                next += 1;
-            }
-        }
+        held = hand_one(state, mem, row, component, port, content, at, held)?;
     }
     Ok(held)
 }

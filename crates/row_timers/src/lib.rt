@@ -21,15 +21,11 @@ pub fn least_timer(state: &[u64], mem: &[u64]) -> f64
 {
     let end = lookup::row_count(state);
     let mut least = times::never();
-    let mut row = 0;
-    while row < end {
+    for row in 0..end {
         let timer = memory::timer_at(mem, row);
-        if timer < least {
-            if counts(state, mem, row) {
-                least = timer;
-            }
+        if timer < least && counts(state, mem, row) {
+            least = timer;
         }
-        row += 1;
     }
     least
 }
@@ -51,14 +47,12 @@ pub fn next_at_zero(state: &[u64], mem: &[u64], from: usize) -> usize
     ensures { result ≡ stop_from (at_zero mem.now) from (length (table_in state.now).rows - from) }
 {
     let end = lookup::row_count(state);
-    let mut row = from;
-    while row < end {
+    for row in from..end {
         if memory::timer_at(mem, row) == 0.0 {
             return row;
         }
-        row += 1;
     }
-    row
+    from.max(end)
 }
 
 // Every timer less the advance, rounded once. An advance of 0 leaves them as they are.
@@ -71,10 +65,8 @@ pub fn pass(state: &[u64], mem: &mut [u64], advance: f64)
         return;
     }
     let end = lookup::row_count(state);
-    let mut row = 0;
-    while row < end {
+    for row in 0..end {
         pass_row(state, mem, row, advance);
-        row += 1;
     }
 }
 

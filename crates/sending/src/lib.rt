@@ -52,21 +52,15 @@ fn send_one(
     ensures only { Only active (active + 1536) mem.old mem.new }
 {
     let id = lookup::id_of(state, row);
-    let end = lookup::connector_count(state);
     let time = times::bits_of(clock);
     let mut sent = count;
     let mut looked = 0;
-    while looked < end {
-        match lookup::next_connector(state, &mut looked, id, port) {
-            Link::Nothing => return Ok(sent),
-            Link::At(_, target) => {
-                if sent == 256 {
-                    return Err(Refusal::NoMessageRoom);
-                }
-                write_message(mem, active + sent * 6, id, port, target, time, content);
-                sent += 1;
-            }
+    while let Link::At(_, target) = lookup::next_connector(state, &mut looked, id, port) {
+        if sent == 256 {
+            return Err(Refusal::NoMessageRoom);
         }
+        write_message(mem, active + sent * 6, id, port, target, time, content);
+        sent += 1;
     }
     Ok(sent)
 }
@@ -88,18 +82,11 @@ pub fn send_all(
     ensures only { Only active (active + 1536) mem.old mem.new }
 {
     let mut sent = count;
-    let mut next = 0;
-    while next < messages {
+    for next in 0..messages {
         let word = mem[from + next];
         let port = word / 0x1_0000_0000;
         let content = word % 0x1_0000_0000;
-        match send_one(state, mem, row, clock, port, content, active, sent) {
-            Err(refusal) => return Err(refusal),
-            Ok(n) => {
-                sent = n;
-                next += 1;
-            }
-        }
+        sent = send_one(state, mem, row, clock, port, content, active, sent)?;
     }
     Ok(sent)
 }

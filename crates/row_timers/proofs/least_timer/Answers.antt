@@ -9,15 +9,11 @@ use Rattle.times.specs.Time.{is_timer, least_of}
 use Rattle.times.proofs.Laws.{never-timer}
 use Rattle.memory.specs.Words.{timer_in}
 use Rattle.lookup.specs.Inside.{table_in}
-use Rattle.lookup.specs.InsideLaws.{sizes-in}
 use Rattle.views.proofs.Timers.{head-here, own-timer}
 use Rattle.row_timers.specs.Leasts.{least_from, counts-here, join-start, join-below, join-uncounted, join-over, join-end}
 use Rattle.row_timers.specs.Aging.{timer-any}
 use Rattle.row_timers.proofs.least_timer.Goals as goal
-use Rattle.row_timers.proofs.least_timer.Goals.{then-timer-least+then-counts, then-timer-least+else-counts, else-timer-least}
-
-pub row_count-end-requires : goal.row_count-end-requires
-row_count-end-requires c = c.requires.0
+use Rattle.row_timers.proofs.least_timer.Goals.{then-timer-least+then-counts, else-timer-least, else-timer-least-via-then-timer-least+else-counts, else-timer-least-via-else-timer-least}
 
 pub loop-row-init : goal.loop-row-init
 loop-row-init c =
@@ -35,18 +31,6 @@ timer_at-timer-requires c =
     let t = table_in a.state.now in
     let l : loop.row < length t.rows = (let e = loop.invariant.0 in let m = c.loop-row-test.true in omega arith) in
     (head-here t a.mem.now loop.row l c.requires.1.laid, timer-any t a.mem.now loop.row l c.requires.1.laid (own-timer t a.mem.now loop.row l c.requires.1))
-
-pub counts-requires : goal.counts-requires
-counts-requires c =
-    (c.requires.0, c.requires.1, (let e = c.loop-row.invariant.0 in let l = c.loop-row-test.true in omega arith))
-
-pub overflow_add-row : goal.overflow_add-row
-overflow_add-row c =
-    let few = sizes-in c.args.state.now c.requires.0 in
-    omega (arith, few.0, c.loop-row.invariant.0, c.loop-row-test.true)
-
-pub loop-row-smaller : goal.loop-row-smaller
-loop-row-smaller c = omega (arith, c.loop-row-test.true)
 
 pub loop-row-preserved : goal.loop-row-preserved
 loop-row-preserved c =
@@ -69,17 +53,17 @@ loop-row-preserved c =
             subst (λ (z : Float). T (is_timer z)) (counts-here t mem ready end whole row l counted ∙ sym e) (own-timer t mem row (omega (arith, whole, l)) ready),
             ap (λ (z : Float). least_of z (least_from t mem (row + 1) end)) e ∙ join-below t mem ready end whole row l x loop.invariant.1 counted (ap (λ (z : Float). lt z x) (sym read) ∙ w.if-timer-least.true) ∙ loop.invariant.2,
           )
-      | then-timer-least+else-counts w ↦
-          let e : c.if-timer-least.least ≡ x = w.least-is in (
-            whole,
-            subst (λ (z : Float). T (is_timer z)) (sym e) loop.invariant.1,
-            ap (λ (z : Float). least_of z (least_from t mem (row + 1) end)) e ∙ join-uncounted t mem ready end whole row l x (sym w.counts.ensures ∙ w.if-counts.false) ∙ loop.invariant.2,
-          )
       | else-timer-least w ↦
-          let e : c.if-timer-least.least ≡ x = w.least-is in (
+          let e : c.if-timer-least.least ≡ x = w.least-is in
+          let over : least_of x (least_from t mem (row + 1) end) ≡ least_of x (least_from t mem row end) =
+          elim w.else-timer-least.branch [
+            | else-timer-least-via-then-timer-least+else-counts v ↦ join-uncounted t mem ready end whole row l x (sym v.counts.ensures ∙ v.if-counts.false)
+            | else-timer-least-via-else-timer-least v ↦ join-over t mem ready end whole row l x loop.invariant.1 (ap (λ (z : Float). lt z x) (sym read) ∙ v.if-timer-least.false)
+          ]
+          in (
             whole,
             subst (λ (z : Float). T (is_timer z)) (sym e) loop.invariant.1,
-            ap (λ (z : Float). least_of z (least_from t mem (row + 1) end)) e ∙ join-over t mem ready end whole row l x loop.invariant.1 (ap (λ (z : Float). lt z x) (sym read) ∙ w.if-timer-least.false) ∙ loop.invariant.2,
+            ap (λ (z : Float). least_of z (least_from t mem (row + 1) end)) e ∙ over ∙ loop.invariant.2,
           )
     ]
 

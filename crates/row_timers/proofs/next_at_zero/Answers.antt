@@ -1,29 +1,17 @@
 -- `row_timers::next_at_zero` meets its contract. The loop: what is left of the search is the whole. Assumes nothing.
-use Prim.Native.Nat.{ℕ, ◌-◌, ◌<◌}
+use Prim.Native.Nat.{◌<◌}
 use mathlib.Core.Path.{sym, ap, ◌∙◌}
 use native.Mathlib.Omega.{arith}
 use lib.ListN.{length}
 use lib.Ieee.{Float, of_bits, eq}
 use Rattle.times.specs.Time.{instant}
 use Rattle.lookup.specs.Inside.{table_in}
-use Rattle.lookup.specs.InsideLaws.{sizes-in}
 use Rattle.views.proofs.Timers.{head-here, own-timer}
-use Rattle.sweeps.specs.Skips.{stop_from, stop-end, stop-hit, stop-skip}
+use Rattle.sweeps.specs.Skips.{stop-hit, stop-skip}
 use Rattle.row_timers.specs.Passing.{at_zero}
 use Rattle.row_timers.specs.Aging.{timer-any}
 use Rattle.row_timers.proofs.next_at_zero.Goals as goal
 
--- src/lib.rt:40:9
-pub row_count-end-requires : goal.row_count-end-requires
-row_count-end-requires c =
-    c.requires.0
-
--- src/lib.rt:42:5
-pub loop-row-init : goal.loop-row-init
-loop-row-init c =
-    (c.row_count-end.ensures, ap (λ (n : ℕ). stop_from (at_zero c.args.mem.now) c.args.from (n - c.args.from)) c.row_count-end.ensures)
-
--- src/lib.rt:43:12
 pub timer_at-requires : goal.timer_at-requires
 timer_at-requires c =
     let a = c.args in
@@ -31,30 +19,12 @@ timer_at-requires c =
     let l : c.loop-row.row < length t.rows = (let e = c.loop-row.invariant.0 in let m = c.loop-row-test.true in omega arith) in
     (head-here t a.mem.now c.loop-row.row l c.requires.1.laid, timer-any t a.mem.now c.loop-row.row l c.requires.1.laid (own-timer t a.mem.now c.loop-row.row l c.requires.1))
 
--- src/lib.rt:44:13
 pub returns-then-timer_at : goal.returns-then-timer_at
 unfolding of_bits
 returns-then-timer_at c =
     sym (stop-hit (at_zero c.args.mem.now) c.loop-row.row c.row_count-end.result c.loop-row-test.true (ap (λ (x : Float). eq x instant) (sym c.timer_at.ensures) ∙ c.if-timer_at.true)) ∙ c.loop-row.invariant.1
 
--- src/lib.rt:46:9
-pub overflow_add-row : goal.overflow_add-row
-overflow_add-row c =
-    let few = sizes-in c.args.state.now c.requires.0 in
-    omega (arith, few.0, c.loop-row.invariant.0, c.loop-row-test.true)
-
--- src/lib.rt:42:5
-pub loop-row-smaller : goal.loop-row-smaller
-loop-row-smaller c =
-    omega (arith, c.loop-row-test.true)
-
--- src/lib.rt:42:5
 pub loop-row-preserved : goal.loop-row-preserved
 unfolding of_bits
 loop-row-preserved c =
     (c.loop-row.invariant.0, sym (stop-skip (at_zero c.args.mem.now) c.loop-row.row c.row_count-end.result c.loop-row-test.true (ap (λ (x : Float). eq x instant) (sym c.timer_at.ensures) ∙ c.if-timer_at.false)) ∙ c.loop-row.invariant.1)
-
--- src/lib.rt:36:1
-pub returns : goal.returns
-returns c =
-    sym (stop-end (at_zero c.args.mem.now) c.loop-row.row c.row_count-end.result c.loop-row-test.false) ∙ c.loop-row.invariant.1

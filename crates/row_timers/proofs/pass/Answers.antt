@@ -9,10 +9,9 @@ use Rattle.times.specs.Time.{is_timer}
 use Rattle.rules.specs.Simulation.{State}
 use Rattle.rules.proofs.Least.{own_timer}
 use Rattle.lookup.specs.Inside.{table_in}
-use Rattle.lookup.specs.InsideLaws.{sizes-in}
 use Rattle.views.proofs.Frames.{frame_same}
 use Rattle.views.proofs.Timers.{own-timer}
-use Rattle.row_timers.specs.Aging.{partly-start, partly-next, partly-end, none_passed}
+use Rattle.row_timers.specs.Aging.{partly-next, partly-end, none_passed}
 use Rattle.row_timers.proofs.pass.Goals as goal
 
 pub returns-then-advance : goal.returns-then-advance
@@ -20,14 +19,6 @@ unfolding of_bits
 returns-then-advance c =
     let a = c.args in
     record { passes = none_passed (table_in a.state.now) a.advance a.mem.now c.requires.1 c.requires.2 c.requires.3 c.if-advance.true; frame = frame_same (table_in a.state.now) 0 0 a.mem.now }
-
-pub row_count-end-requires : goal.row_count-end-requires
-row_count-end-requires c = c.requires.0
-
-pub loop-row-init : goal.loop-row-init
-loop-row-init c =
-    let a = c.args in
-    (c.row_count-end.ensures, partly-start (table_in a.state.now) a.advance a.mem.now c.requires.1.laid)
 
 pub pass_row-requires : goal.pass_row-requires
 pass_row-requires c =
@@ -42,14 +33,6 @@ pass_row-requires c =
       c.requires.2,
     )
 
-pub overflow_add-row : goal.overflow_add-row
-overflow_add-row c =
-    let few = sizes-in c.args.state.now c.requires.0 in
-    omega (arith, few.0, c.loop-row.invariant.0, c.loop-row-test.true)
-
-pub loop-row-smaller : goal.loop-row-smaller
-loop-row-smaller c = omega (arith, c.loop-row-test.true)
-
 pub loop-row-preserved : goal.loop-row-preserved
 loop-row-preserved c =
     let loop = c.loop-row in
@@ -57,9 +40,6 @@ loop-row-preserved c =
     let t = table_in a.state.now in
     let l : loop.row < length t.rows = omega (arith, loop.invariant.0, c.loop-row-test.true) in
     (loop.invariant.0, partly-next t a.advance a.mem.now loop.row l _ _ loop.invariant.1 c.pass_row.ensures)
-
-pub shape_of-mem : goal.shape_of-mem
-shape_of-mem c = c.loop-row.invariant.1.frame.long
 
 pub returns : goal.returns
 returns c =

@@ -1,4 +1,5 @@
 -- `sending::send_all` meets its contract. The loop: what is left of sending all messages is to send those from `next` on. Assumes nothing.
+use Rattle.std.proofs.lemmas.Result.{err_from_is_err_and}
 use Prim.Native.Nat.{◌+◌, ◌≤◌}
 use mathlib.Core.Path.{◌∙◌}
 use native.Mathlib.Omega.{arith}
@@ -26,20 +27,21 @@ send_one-requires c =
     let room : a.active + 1536 ≤ length s.mem = omega (arith, s.invariant.frame.long) in
     (pre.0, pre.2, pre.3, room, s.invariant.few)
 
-pub shape_of-mem-in-Err : goal.shape_of-mem-in-Err
-shape_of-mem-in-Err c =
+pub shape_of-mem-in_err-sent : goal.shape_of-mem-in_err-sent
+shape_of-mem-in_err-sent c =
     c.send_one.ensures.only.long ∙ c.loop-next.invariant.frame.long
 
-pub returns-in-Err : goal.returns-in-Err
-returns-in-Err c =
+pub returns-in_err-sent : goal.returns-in_err-sent
+returns-in_err-sent c =
+    let refused = err_from_is_err_and c.from_residual.result c.from_residual.ensures.1 in
     let a = c.args in
     let pre = c.requires in
     let t = table_in a.state.now in
     let s = c.loop-next in
     let one = c.send_one in
     record {
-      sends = going-stops t a.clock a.row a.from a.messages a.mem.now a.active a.count s.next s.sent s.mem s.invariant c.loop-next-test.true pre.3 pre.4
-          one.result one.new.mem one.ensures.sends c.in-Err.refusal c.in-Err.is;
+      sends = rw (refused.1, refused.2) (going-stops t a.clock a.row a.from a.messages a.mem.now a.active a.count s.next s.sent s.mem s.invariant c.loop-next-test.true pre.3 pre.4
+          one.result one.new.mem one.ensures.sends c.in_err-sent.field-0.0 c.in_err-sent.was);
       only = only_then a.active (a.active + 1536) a.mem.now s.mem one.new.mem s.invariant.frame one.ensures.only;
     }
 
@@ -50,7 +52,7 @@ loop-next-preserved c =
     let s = c.loop-next in
     let one = c.send_one in
     going_on (table_in a.state.now) a.clock a.row a.from a.messages a.mem.now a.active a.count s.next s.sent s.mem s.invariant c.loop-next-test.true pre.3 pre.4
-    one.result one.new.mem one.ensures.sends c.in-Ok.n c.in-Ok.is one.ensures.only
+    one.result one.new.mem one.ensures.sends c.in_ok-sent.sent c.in_ok-sent.was one.ensures.only
 
 pub shape_of-mem : goal.shape_of-mem
 shape_of-mem c =

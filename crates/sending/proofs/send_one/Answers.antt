@@ -1,88 +1,75 @@
 -- `sending::send_one` meets its contract. The loop: what is left of sending along all connectors is to send along those that have not been looked at. Assumes nothing.
-use Prim.Native.Nat.{◌<◌, ◌≤◌}
+use Prim.Native.Nat.{◌<◌}
 use native.Mathlib.Omega.{arith}
-use lib.ListN.{length}
 use Rattle.rules.specs.Step.{out_at}
-use Rattle.lookup.specs.Inside.{table_in}
-use Rattle.sending.specs.Along.{none-along, one_along, found-bounds, along-start, along-none, along-end, along-full, along-on}
+use Rattle.sending.specs.Along.{none-along, one_along, found-bounds, along-start, along-none, along-full, along-on}
 use Rattle.sending.proofs.send_one.Goals as goal
 
-pub loop-looked-init : goal.loop-looked-init
-loop-looked-init c =
+pub loop-target-init : goal.loop-target-init
+loop-target-init c =
     let a = c.args in
     let pre = c.requires in
     along-start a.state.now a.clock a.row (out_at a.port a.content) a.active a.count a.mem.now pre.0 pre.4
 
-pub shape_of-mem-in-None : goal.shape_of-mem-in-None
-shape_of-mem-in-None c =
-    c.loop-looked.invariant.frame.long
+pub shape_of-mem : goal.shape_of-mem
+shape_of-mem c =
+    c.loop-target.invariant.frame.long
 
-pub returns-in-None : goal.returns-in-None
-returns-in-None c =
+pub returns : goal.returns
+returns c =
     let a = c.args in
     let m = out_at a.port a.content in
-    let s = c.loop-looked in
-    let found = none-along a.state.now a.clock a.row m _ s.looked _ _ c.id_of-id.ensures c.next_connector.ensures c.in-None.is in
+    let s = c.loop-target in
+    let found = none-along a.state.now a.clock a.row m _ s.looked _ _ c.id_of-id.ensures c.next_connector.ensures c.in_default.is in
     record { sends = along-none a.state.now a.clock a.row m a.active a.count a.mem.now s.looked s.sent s.mem s.invariant found; only = s.invariant.frame }
 
 pub shape_of-mem-then-sent-eq256 : goal.shape_of-mem-then-sent-eq256
 shape_of-mem-then-sent-eq256 c =
-    c.loop-looked.invariant.frame.long
+    c.loop-target.invariant.frame.long
 
 pub returns-then-sent-eq256 : goal.returns-then-sent-eq256
 returns-then-sent-eq256 c =
     let a = c.args in
     let m = out_at a.port a.content in
-    let s = c.loop-looked in
-    let found = one_along a.state.now a.clock a.row m _ s.looked _ _ c.id_of-id.ensures c.next_connector.ensures _ _ c.in-Some.is in
+    let s = c.loop-target in
+    let found = one_along a.state.now a.clock a.row m _ s.looked _ _ c.id_of-id.ensures c.next_connector.ensures _ _ c.in-At.is in
     record { sends = along-full a.state.now a.clock a.row m a.active a.count a.mem.now s.looked s.sent s.mem s.invariant _ found.0 c.if-sent-eq256.true; only = s.invariant.frame }
 
 pub overflow_mul-sent : goal.overflow_mul-sent
 overflow_mul-sent c =
-    let few = c.loop-looked.invariant.few in omega arith
+    let few = c.loop-target.invariant.few in omega arith
 
 pub overflow_add-active : goal.overflow_add-active
 overflow_add-active c =
-    let few = c.loop-looked.invariant.few in omega arith
+    let few = c.loop-target.invariant.few in omega arith
 
 pub write_message-requires : goal.write_message-requires
 write_message-requires c =
-    let few = c.loop-looked.invariant.few in let full = c.if-sent-eq256.false in omega (arith, c.loop-looked.invariant.frame.long)
+    let few = c.loop-target.invariant.few in let full = c.if-sent-eq256.false in omega (arith, c.loop-target.invariant.frame.long)
 
 pub overflow_add-sent : goal.overflow_add-sent
 overflow_add-sent c =
-    let few = c.loop-looked.invariant.few in omega arith
+    let few = c.loop-target.invariant.few in omega arith
 
-pub loop-looked-smaller : goal.loop-looked-smaller
-loop-looked-smaller c =
+pub loop-target-smaller : goal.loop-target-smaller
+loop-target-smaller c =
     let a = c.args in
-    let s = c.loop-looked in
+    let s = c.loop-target in
     let m = out_at a.port a.content in
-    let found = one_along a.state.now a.clock a.row m _ s.looked _ _ c.id_of-id.ensures c.next_connector.ensures _ _ c.in-Some.is in
+    let found = one_along a.state.now a.clock a.row m _ s.looked _ _ c.id_of-id.ensures c.next_connector.ensures _ _ c.in-At.is in
     let bounds = found-bounds a.state.now a.clock a.row m s.looked _ found.0 in
-    omega (arith, bounds.0, bounds.1, found.2, c.connector_count-end.ensures)
+    omega (arith, bounds.0, bounds.1, found.2)
 
-pub loop-looked-preserved : goal.loop-looked-preserved
-loop-looked-preserved c =
+pub loop-target-preserved : goal.loop-target-preserved
+loop-target-preserved c =
     let a = c.args in
     let pre = c.requires in
     let m = out_at a.port a.content in
-    let s = c.loop-looked in
-    let found = one_along a.state.now a.clock a.row m _ s.looked _ _ c.id_of-id.ensures c.next_connector.ensures _ _ c.in-Some.is in
+    let s = c.loop-target in
+    let found = one_along a.state.now a.clock a.row m _ s.looked _ _ c.id_of-id.ensures c.next_connector.ensures _ _ c.in-At.is in
     let few = s.invariant.few in
     let full = c.if-sent-eq256.false in
     let free : s.sent < 256 = omega arith in
     along-on a.state.now a.clock a.row m a.active a.count a.mem.now s.looked s.sent s.mem s.invariant _ found.0
     _ _ _ _ c.write_message.new.mem
     c.id_of-id.ensures found.1 c.bits_of-time.ensures found.2 c.write_message.ensures free pre.1 pre.2 pre.3
-
-pub shape_of-mem : goal.shape_of-mem
-shape_of-mem c =
-    c.loop-looked.invariant.frame.long
-
-pub returns : goal.returns
-returns c =
-    let a = c.args in
-    let s = c.loop-looked in
-    let past : length (table_in a.state.now).connectors ≤ s.looked = omega (arith, c.loop-looked-test.false, c.connector_count-end.ensures) in
-    record { sends = along-end a.state.now a.clock a.row (out_at a.port a.content) a.active a.count a.mem.now s.looked s.sent s.mem s.invariant past; only = s.invariant.frame }
