@@ -78,13 +78,9 @@ fn coupled_internal(
     ensures gives { Gives result at (Step.internal (table_in state.now) services.now (suc depth) clock row) (table_in state.now) mem.old mem.new }
     ensures frame { Frame (table_in state.now) at (length mem.old) mem.old mem.new }
 {
-    match unparking::unpark(state, services, mem, depth, clock, row) {
-        Err(refusal) => Err(refusal),
-        Ok(()) => {
-            parked_rows::empty(mem, row);
-            turns(state, services, mem, depth, clock, row, at)
-        }
-    }
+    unparking::unpark(state, services, mem, depth, clock, row)?;
+    parked_rows::empty(mem, row);
+    turns(state, services, mem, depth, clock, row, at)
 }
 
 // Each component in order has its turn.
@@ -103,22 +99,13 @@ fn turns(
     ensures frame { Frame (table_in state.now) at (length mem.old) mem.old mem.new }
 {
     let owner = lookup::id_of(state, row);
-    let end = lookup::row_count(state);
     let mut count = 0;
     let mut from = 0;
-    while from < end {
-        match lookup::next_component(state, from, owner) {
-            None => return Ok(count),
-            Some(component) => {
-                match turn(
-                    state, services, mem, depth, clock, row, component, at, count,
-                ) {
-                    Ok(messages) => count = messages,
-                    Err(refusal) => return Err(refusal),
-                }
-                from = component + 1;
-            }
-        }
+    while let Some(component) = lookup::next_component(state, from, owner) {
+        count = turn(
+            state, services, mem, depth, clock, row, component, at, count,
+        )?;
+        from = component + 1;
     }
     Ok(count)
 }
@@ -143,10 +130,6 @@ fn turn(
     if !model_events::is_due(state, mem, depth, component) {
         return Ok(count);
     }
-    match internal(state, services, mem, depth, clock, component, at + 256) {
-        Err(refusal) => Err(refusal),
-        Ok(messages) => {
-            handing::hand_all(state, mem, row, component, at + 256, messages, at, count)
-        }
-    }
+    let messages = internal(state, services, mem, depth, clock, component, at + 256)?;
+    handing::hand_all(state, mem, row, component, at + 256, messages, at, count)
 }

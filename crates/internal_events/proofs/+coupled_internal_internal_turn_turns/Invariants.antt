@@ -23,13 +23,12 @@ decreases-turn l = l.depth * 4 + 1
 abbrev pub decreases-turns : goal.decreases-turns
 decreases-turns l = l.depth * 4 + 2
 
-abbrev pub invariant-turns-loop-from : goal.invariant-turns-loop-from
-invariant-turns-loop-from l =
+abbrev pub invariant-turns-loop-component : goal.invariant-turns-loop-component
+invariant-turns-loop-component l =
     (l.owner ≡ id_at (table_in l.state) l.row)
-    × (l.end ≡ length (table_in l.state).rows)
     × (length l.mem ≡ length l.initial.mem)
-    × Adding (table_in l.state) (outs_in l.at) most_out (Step.turn (table_in l.state) l.services l.depth (Step.internal (table_in l.state) l.services l.depth l.clock) l.row) (is_one (table_in l.state) l.owner) l.at (length l.initial.mem) l.initial.mem 0 l.end l.from l.mem l.count
+    × Adding (table_in l.state) (outs_in l.at) most_out (Step.turn (table_in l.state) l.services l.depth (Step.internal (table_in l.state) l.services l.depth l.clock) l.row) (is_one (table_in l.state) l.owner) l.at (length l.initial.mem) l.initial.mem 0 (length (table_in l.state).rows) l.from l.mem l.count
 
-abbrev pub decreases-turns-loop-from : goal.decreases-turns-loop-from
-decreases-turns-loop-from l =
-    l.end - l.from
+abbrev pub decreases-turns-loop-component : goal.decreases-turns-loop-component
+decreases-turns-loop-component l =
+    length (table_in l.state).rows - l.from
