@@ -1,5 +1,5 @@
 -- One message along every connector that matches, in order, as a loop sends it. Assumes nothing.
-use Rattle.std.specs.Prelude.{ℕ, ◌+◌, ◌-◌, ◌*◌, ◌≤◌, ◌<◌, ◌≡◌, refl, Bool, ◌⊎◌, List, [], ◌∷◌, ◌++◌, map, length, T, Float, Err, None, Ok, Some}
+use Rattle.std.specs.Prelude.{ℕ, ◌+◌, ◌-◌, ◌*◌, ◌≤◌, ◌<◌, ◌≡◌, refl, Bool, ◌⊎◌, List, [], ◌∷◌, ◌++◌, map, length, T, Float, Err, None, Ok, Option, Some}
 use Rattle.std.proofs.Common.{sym, ap, subst, ◌∙◌, inl, inr, arith, length-append}
 use Rattle.std.proofs.lemmas.Simd.{map-map}
 use Rattle.std.proofs.Math.Nat.{sub-zero}
@@ -19,7 +19,6 @@ use Rattle.words.specs.SearchLaws.{search-end, first-at}
 use Rattle.table.specs.Passed.{connector_at}
 use Rattle.selection.specs.declared.Target.{Target}
 use Rattle.selection.specs.declared.Link.{Link}
-use Rattle.selection.specs.declared.Link.TheVariants as link
 use Rattle.selection.specs.Selecting.{connects, lead_at, Finds}
 use Rattle.selection.specs.Looking.{finds-none, finds-at}
 use Rattle.selection.specs.Selected.{sweep-on, sweep-end, each_map}
@@ -92,15 +91,15 @@ module _ (state : List ℕ) (clock : Float) (row : ℕ) (m : Out) where
       ∙ ap (λ (k : ℕ). each send_at (those matches (from 0 k)) ms) (sym (sub-zero n))
 
   -- what a search for the row's id answers, and how many have been looked at then
-  module _ (id looked : ℕ) (r : Link) (after : ℕ) (same : id ≡ id_at (table_in state) row)
+  module _ (id looked : ℕ) (r : Option Link) (after : ℕ) (same : id ≡ id_at (table_in state) row)
       (finds : Finds (connects (connectors_in state) id m.port) (lead_at (connectors_in state)) (length (table_in state).connectors) looked r after) where
     finds-along : Finds matches (lead_at (connectors_in state)) (length (table_in state).connectors) looked r after
     finds-along = subst (λ (id : ℕ). Finds (connects (connectors_in state) id m.port) (lead_at (connectors_in state)) (length (table_in state).connectors) looked r after) same finds
 
-    pub none-along : r ≡ link.Nothing → first_from matches looked (length (table_in state).connectors - looked) ≡ None
+    pub none-along : r ≡ None → first_from matches looked (length (table_in state).connectors - looked) ≡ None
     none-along = finds-none matches (lead_at (connectors_in state)) (length (table_in state).connectors) looked r after finds-along
 
-    pub one_along : (j : ℕ) (to : Target) → r ≡ link.At j to
+    pub one_along : (j : ℕ) (to : Target) → r ≡ Some (record { place = j; target = to })
         → (first_from matches looked (length (table_in state).connectors - looked) ≡ Some j) × (to ≡ lead_at (connectors_in state) j) × (after ≡ j + 1)
     one_along = finds-at matches (lead_at (connectors_in state)) (length (table_in state).connectors) looked r after finds-along
 

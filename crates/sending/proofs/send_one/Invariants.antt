@@ -6,10 +6,10 @@ use Rattle.rules.specs.Step.{out_at}
 use Rattle.sending.specs.Along.{Along}
 use Rattle.sending.proofs.send_one.Given as goal
 
-abbrev pub invariant-loop-target : goal.invariant-loop-target
-invariant-loop-target l =
+abbrev pub invariant-loop-link : goal.invariant-loop-link
+invariant-loop-link l =
     Along l.state l.clock l.row (out_at l.port l.content) l.active l.count l.initial.mem l.looked l.sent l.mem
 
-abbrev pub decreases-loop-target : goal.decreases-loop-target
-decreases-loop-target l =
+abbrev pub decreases-loop-link : goal.decreases-loop-link
+decreases-loop-link l =
     length (table_in l.state).connectors - l.looked
