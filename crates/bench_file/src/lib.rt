@@ -88,6 +88,7 @@ fn counted(counts: Counts, page: Page, room: bool) -> Result<Counts, Expected>
 }
 
 // Puts a row on its page, and counts it.
+// kept: five slices and no struct of them, since its contract would have to say too that each field stays the reference that it was
 fn put_item(
     models: &mut [u64],
     connectors: &mut [u64],
