@@ -74,9 +74,6 @@ pub enum_told-1 : goal.enum_told-1
 enum_told-1 c = search rules
 
 -- src/lib.rt:76:38
-pub enum_told-in-Broken : goal.enum_told-in-Broken
-enum_told-in-Broken c = search rules
-
 -- src/lib.rt:57:1
 pub shape_of-mem-in-Processor : goal.shape_of-mem-in-Processor
 shape_of-mem-in-Processor c = search rules
@@ -120,7 +117,3 @@ returns-in-Coupled c =
     record { gives = absurd (no-coupled (kind_at (table_in a.state.now) a.row) c.requires.1 (sym c.kind_of.ensures ∙ c.in-Coupled.is)); frame = absurd (no-coupled (kind_at (table_in a.state.now) a.row) c.requires.1 (sym c.kind_of.ensures ∙ c.in-Coupled.is)) }
 
 -- src/lib.rt:57:1
-pub returns-in-Broken : goal.returns-in-Broken
-returns-in-Broken c =
-    let a = c.args in
-    record { gives = absurd (no-broken (kind_at (table_in a.state.now) a.row) (sym c.kind_of.ensures ∙ c.in-Broken.is)); frame = absurd (no-broken (kind_at (table_in a.state.now) a.row) (sym c.kind_of.ensures ∙ c.in-Broken.is)) }
