@@ -37,11 +37,7 @@ fn clear(state: &mut [u64], start: usize, end: usize)
     requires { (start ≤ end) × (end ≤ length state.old) }
     ensures { state.new ≡ laid start (zeros (end - start)) state.old }
 {
-    let mut at = start;
-    while at < end {
-        state[at] = 0;
-        at += 1;
-    }
+    state[start..end].fill(0);
 }
 
 // A new row's timer by the number of its kind: infinite, and 0 for a Coupled.
@@ -74,13 +70,11 @@ fn lay_heads(state: &mut [u64], at: usize, models: &[u64], rows: usize) -> usize
     ensures ends { result ≡ head_at rows + widths (new_from models.now 0 rows) }
     ensures lays { state.new ≡ laid at (heads (head_at rows) (new_from models.now 0 rows)) state.old }
 {
-    let mut row = 0;
     let mut begin = rows * 4 + 3;
-    while row < rows {
+    for row in 0..rows {
         let kind = models[row * 10 + 1];
         lay_head(state, at + row * 4, kind, begin);
         begin += width_of(kind);
-        row += 1;
     }
     begin
 }
