@@ -1,5 +1,5 @@
 -- The laws of an answer: what it says of the rules' outcome; and a word put out is read as it was. Assumes nothing.
-use Rattle.std.specs.Prelude.{ℕ, ◌+◌, ◌*◌, ◌/◌, ◌%◌, ◌<◌, ◌≡◌, refl, Err, Ok}
+use Rattle.std.specs.Prelude.{ℕ, ◌+◌, ◌*◌, ◌/◌, ◌%◌, ◌<◌, ◌≡◌, refl, Err, Ok, Result}
 use Rattle.std.proofs.Common.{sym, ap, ◌∙◌, mod-eq_of_lt, arith}
 use Rattle.std.proofs.Math.Nat.{mul-add-div_right, div-eq_of_lt, mul-add-mod_self_right}
 use Rattle.rules.specs.declared.Refusal.{Refusal}
@@ -13,17 +13,17 @@ use Rattle.memory.specs.View.{out_of}
 use Rattle.memory.specs.Answers.{answer_of, out_word}
 
 -- ---- what came is done, with what became of it, or refused
-pub data Answers (a : Taken) : Type 0 where
+pub data Answers (a : Result Taken Refusal) : Type 0 where
   goes_on : (fate : Fate) → answer_of a ≡ Ok tt → fate_of a ≡ done fate → Answers a
   stops_at : (r : Refusal) → answer_of a ≡ Err r → fate_of a ≡ refused r → Answers a
 
-pub answers : (a : Taken) → Answers a
-answers taken.Started = goes_on Started refl refl
-answers taken.Kept = goes_on Kept refl refl
-answers taken.Dropped = goes_on Dropped refl refl
-answers taken.Marked = goes_on Marked refl refl
-answers taken.Asked = goes_on Asked refl refl
-answers (taken.Refused r) = stops_at r refl refl
+pub answers : (a : Result Taken Refusal) → Answers a
+answers (Ok taken.Started) = goes_on Started refl refl
+answers (Ok taken.Kept) = goes_on Kept refl refl
+answers (Ok taken.Dropped) = goes_on Dropped refl refl
+answers (Ok taken.Marked) = goes_on Marked refl refl
+answers (Ok taken.Asked) = goes_on Asked refl refl
+answers (Err r) = stops_at r refl refl
 
 -- ---- an outcome by what is handed back
 module _ {S R : Type 0} where

@@ -2,16 +2,11 @@
 use Rattle.std.specs.Prelude.{ℕ, ◌+◌, ◌*◌, Err, Ok, Result, ⊤}
 use Rattle.rules.specs.declared.Refusal.{Refusal}
 use Rattle.events.specs.declared.Taken.{Taken}
-use Rattle.events.specs.declared.Taken.TheVariants as taken
 
 -- what came was taken, or refused
-abbrev pub answer_of : Taken → Result ⊤ Refusal
-answer_of taken.Started = Ok tt
-answer_of taken.Kept = Ok tt
-answer_of taken.Dropped = Ok tt
-answer_of taken.Marked = Ok tt
-answer_of taken.Asked = Ok tt
-answer_of (taken.Refused r) = Err r
+abbrev pub answer_of : Result Taken Refusal → Result ⊤ Refusal
+answer_of (Ok taken) = Ok tt
+answer_of (Err r) = Err r
 
 -- port, content
 abbrev pub out_word : ℕ → ℕ → ℕ

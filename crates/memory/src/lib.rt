@@ -12,16 +12,12 @@ use events::Taken;
 use rules::Refusal;
 
 // Whether what came was taken, or the number that it was refused with. What became of it is not told.
-pub fn answer_of(taken: Taken) -> Result<(), Refusal>
+pub fn answer_of(taken: Result<Taken, Refusal>) -> Result<(), Refusal>
     ensures { result ≡ answer_of taken }
 {
     match taken {
-        Taken::Started => Ok(()),
-        Taken::Kept => Ok(()),
-        Taken::Dropped => Ok(()),
-        Taken::Marked => Ok(()),
-        Taken::Asked => Ok(()),
-        Taken::Refused(refusal) => Err(refusal),
+        Ok(_) => Ok(()),
+        Err(refusal) => Err(refusal),
     }
 }
 

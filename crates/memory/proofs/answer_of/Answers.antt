@@ -1,5 +1,0 @@
--- `memory::answer_of` meets its contract. Assumes nothing.
-use Rattle.memory.proofs.answer_of.Goals as goal
-
-pub returns-in-Refused : goal.returns-in-Refused
-returns-in-Refused c = rw c.in-Refused.is
