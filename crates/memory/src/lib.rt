@@ -15,8 +15,10 @@ use rules::Refusal;
 pub fn answer_of(taken: Result<Taken, Refusal>) -> Result<(), Refusal>
     ensures { result ≡ answer_of taken }
 {
-    taken?;
-    Ok(())
+    match taken {
+        Ok(_) => Ok(()),
+        Err(refusal) => Err(refusal),
+    }
 }
 
 // A row's phase word.

@@ -135,7 +135,7 @@ module _ (b i : ℕ) (place : ℕ) (jobs after : List ℕ) where
 
 -- ---- a processor's events
 module _ (p : Processor) (services : List Float) (b i : ℕ) (mem : List ℕ) (next : ProcessorState) (place : ℕ) where
-  module _ (port content : ℕ) (a : Taken) where
+  module _ (port content : ℕ) (a : Result Taken Refusal) where
     abbrev rule : Outcome (Simulation.ProcessorState × ℕ × Fate)
     rule = processor_external p services port content (processor_in b mem i) (place_in mem)
 
@@ -218,7 +218,7 @@ kept-refused (refused q) r e = let g : q ≡ r = cc in ap refused g
 kept-refused (done n) r e = let z : ◌≡◌ {A = ℕ} 0 1 = cc in absurd (omega arith)
 
 module _ (m : Batcher) (b i : ℕ) (mem : List ℕ) (next : BatcherState) where
-  module _ (content : ℕ) (a : Taken) where
+  module _ (content : ℕ) (a : Result Taken Refusal) where
     abbrev kept_rule : Outcome Simulation.BatcherState
     kept_rule = batcher_external m content (batcher_in b mem i)
 

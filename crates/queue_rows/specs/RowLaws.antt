@@ -1,5 +1,5 @@
 -- The laws of a row that holds a queue: what each write leaves of the words, and what an event's writes leave together. Assumes nothing.
-use Rattle.std.specs.Prelude.{ℕ, zero, suc, ◌+◌, ◌-◌, ◌≤◌, ◌<◌, ◌≡◌, refl, List, [], ◌∷◌, ◌++◌, map, Bool, length, get_or, set, take, drop, T}
+use Rattle.std.specs.Prelude.{ℕ, zero, suc, ◌+◌, ◌-◌, ◌≤◌, ◌<◌, ◌≡◌, refl, List, [], ◌∷◌, ◌++◌, map, Bool, length, get_or, set, take, drop, T, Ok, Err, Result}
 use Rattle.std.proofs.Common.{sym, ap, ◌∙◌, inl, inr, append_assoc, append-nil, add-one, arith, length-drop, length-set, take-append-drop, length-take-le, get_or-take, get_or-drop, get_or-set_same, get_or-set_other, take-take, ltb→lt}
 use Rattle.std.proofs.lemmas.List.{length-map}
 use Rattle.std.proofs.Math.ListN.{get_or-map}
@@ -15,6 +15,7 @@ use Rattle.words.specs.Queue.{queue_in, unused_clear, moved_up}
 use Rattle.words.specs.QueueLaws.{push-holds, push-clear, push-length, queue-length, moved_length, moved_holds, moved-clear}
 use Rattle.events.specs.Meaning.{queue_after}
 use Rattle.events.specs.Held.{one_more}
+use Rattle.rules.specs.declared.Refusal.{Refusal}
 use Rattle.events.specs.declared.Taken.{Taken}
 use Rattle.events.specs.declared.Taken.TheVariants as taken
 use Rattle.memory.specs.View.{out_of}
@@ -76,28 +77,28 @@ module _ (held : ℕ) (own : List ℕ) (job n : ℕ) (within : held ≤ length o
   stays : length (queue_in held own) ≡ n → T (unused_clear held own) → (queue_in n own ≡ queue_in held own) × T (unused_clear n own)
   stays e clear = let k = uncounted e in (rw k, rw k clear)
 
-  pub own-after : (a : Taken) → length (queue_after a (queue_in held own) job) ≡ n → n ≤ length own → T (unused_clear held own) → (queue_in n (own_after a held job own) ≡ queue_after a (queue_in held own) job) × T (unused_clear n (own_after a held job own))
-  own-after taken.Started e few clear = joined e few clear
-  own-after taken.Kept e few clear = joined e few clear
-  own-after taken.Dropped e few clear = stays e clear
-  own-after taken.Marked e few clear = stays e clear
-  own-after taken.Asked e few clear = stays e clear
-  own-after (taken.Refused r) e few clear = stays e clear
+  pub own-after : (a : Result Taken Refusal) → length (queue_after a (queue_in held own) job) ≡ n → n ≤ length own → T (unused_clear held own) → (queue_in n (own_after a held job own) ≡ queue_after a (queue_in held own) job) × T (unused_clear n (own_after a held job own))
+  own-after (Ok taken.Started) e few clear = joined e few clear
+  own-after (Ok taken.Kept) e few clear = joined e few clear
+  own-after (Ok taken.Dropped) e few clear = stays e clear
+  own-after (Ok taken.Marked) e few clear = stays e clear
+  own-after (Ok taken.Asked) e few clear = stays e clear
+  own-after (Err r) e few clear = stays e clear
 
-pub own-after-length : (held : ℕ) (own : List ℕ) (job : ℕ) (a : Taken) → length (own_after a held job own) ≡ length own
-own-after-length held own job taken.Started = push-length held own job
-own-after-length held own job taken.Kept = push-length held own job
-own-after-length held own job taken.Dropped = refl
-own-after-length held own job taken.Marked = refl
-own-after-length held own job taken.Asked = refl
-own-after-length held own job (taken.Refused r) = refl
+pub own-after-length : (held : ℕ) (own : List ℕ) (job : ℕ) (a : Result Taken Refusal) → length (own_after a held job own) ≡ length own
+own-after-length held own job (Ok taken.Started) = push-length held own job
+own-after-length held own job (Ok taken.Kept) = push-length held own job
+own-after-length held own job (Ok taken.Dropped) = refl
+own-after-length held own job (Ok taken.Marked) = refl
+own-after-length held own job (Ok taken.Asked) = refl
+own-after-length held own job (Err r) = refl
 
 -- as many jobs as the head says
 pub held-jobs : (b : ℕ) (mem : List ℕ) (i : ℕ) → Queued b mem i → length (jobs_at b mem i) ≡ held_in mem i
 held-jobs b mem i q = queue-length (held_in mem i) (own_in b 64 mem) (rw (part_length b 64 mem q.room) q.few)
 
 -- ---- an external event's writes together
-module _ (b i : ℕ) (mem : List ℕ) (q : Queued b mem i) (h : Head) (a : Taken) (job : ℕ) where
+module _ (b i : ℕ) (mem : List ℕ) (q : Queued b mem i) (h : Head) (a : Result Taken Refusal) (job : ℕ) where
   own_is : length (own_in b 64 mem) ≡ 64
   own_is = part_length b 64 mem q.room
 

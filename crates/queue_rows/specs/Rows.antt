@@ -35,15 +35,15 @@ abbrev pub with_head : ℕ → Head → List ℕ → List ℕ
 with_head i h mem = set (headed i h.phase (to_bits binary64 h.timer) h.held mem) place_at h.place
 
 -- a job that is started or kept stands in the place after the others
-abbrev pub joins : Taken → Bool
-joins taken.Started = true
-joins taken.Kept = true
-joins taken.Dropped = false
-joins taken.Marked = false
-joins taken.Asked = false
-joins (taken.Refused r) = false
+abbrev pub joins : Result Taken Refusal → Bool
+joins (Ok taken.Started) = true
+joins (Ok taken.Kept) = true
+joins (Ok taken.Dropped) = false
+joins (Ok taken.Marked) = false
+joins (Ok taken.Asked) = false
+joins (Err r) = false
 
-abbrev pub own_after : Taken → ℕ → ℕ → List ℕ → List ℕ
+abbrev pub own_after : Result Taken Refusal → ℕ → ℕ → List ℕ → List ℕ
 own_after a held job own = if joins a then set own held job else own
 
 -- the n first words from b on, each with its port, stand from `at` on
@@ -51,7 +51,7 @@ abbrev pub put_words : (b at port : ℕ) → List ℕ → ℕ → List ℕ
 put_words b at port mem n = replaced at n (take n (map (out_word port) (drop b mem))) mem
 
 -- ---- all that an event of the row i writes
-abbrev pub took_words : (b i : ℕ) → Head → Taken → ℕ → List ℕ → List ℕ
+abbrev pub took_words : (b i : ℕ) → Head → Result Taken Refusal → ℕ → List ℕ → List ℕ
 took_words b i h a job mem = with_head i h (replaced b 64 (own_after a (held_in mem i) job (own_in b 64 mem)) mem)
 
 -- the own words that n jobs leave, once they are put out

@@ -139,21 +139,14 @@ fn store(mem: &mut [u64], row: usize, next: Head)
 }
 
 // Whether what came now stands in the queue.
-fn is_joined(taken: Taken) -> bool
+fn is_joined(taken: Result<Taken, Refusal>) -> bool
     ensures { result ≡ joins taken }
 {
-    match taken {
-        Taken::Started => true,
-        Taken::Kept => true,
-        Taken::Dropped => false,
-        Taken::Marked => false,
-        Taken::Asked => false,
-        Taken::Refused(_) => false,
-    }
+    matches!(taken, Ok(Taken::Started | Taken::Kept))
 }
 
 // The job stands behind the others, where it is kept.
-fn keep(mem: &mut [u64], begin: usize, held: u64, taken: Taken, content: u32)
+fn keep(mem: &mut [u64], begin: usize, held: u64, taken: Result<Taken, Refusal>, content: u32)
     requires { begin + 64 ≤ length mem.old }
     ensures { mem.new ≡ replaced begin 64 (own_after taken held content (own_in begin 64 mem.old)) mem.old }
 {
@@ -179,10 +172,8 @@ fn put_out(mem: &mut [u64], begin: usize, gone: u64, port: u16, at: usize)
     requires { (gone ≤ 64) × (begin + 64 ≤ at) × (at + 64 ≤ length mem.old) × T (every is_content (take gone (drop begin mem.old))) }
     ensures { mem.new ≡ put_words begin at port mem.old gone }
 {
-    let mut done: usize = 0;
-    while done < gone as usize {
+    for done in 0..gone as usize {
         mem[at + done] = port as u64 * 4294967296 + mem[begin + done];
-        done += 1;
     }
 }
 
@@ -191,7 +182,7 @@ fn write_taken(
     mem: &mut [u64],
     row: usize,
     next: Head,
-    taken: Taken,
+    taken: Result<Taken, Refusal>,
     content: u32,
 ) -> Result<(), Refusal>
     requires { Queued (begin_in mem.old row) mem.old row × (length (queue_after taken (jobs_at (begin_in mem.old row) mem.old row) content) ≡ next.held) × (next.held ≤ 64) }

@@ -1,5 +1,5 @@
 -- A stopwatch's events in place are the rules' events on the row's state. Assumes nothing.
-use Rattle.std.specs.Prelude.{ℕ, ◌+◌, ◌^◌, ◌≤◌, ◌<◌, ◌≡◌, refl, Bool, List, [], ◌∷◌, map, length, set, take, T, eqb, ltb, Float, if◌then◌else◌, Err, Ok}
+use Rattle.std.specs.Prelude.{ℕ, ◌+◌, ◌^◌, ◌≤◌, ◌<◌, ◌≡◌, refl, Bool, List, [], ◌∷◌, map, length, set, take, T, eqb, ltb, Float, if◌then◌else◌, Err, Ok, Result, Option, Some, None}
 use Rattle.std.proofs.Common.{arith, sym, ap, ◌∙◌, subst, inl, inr, length-set, drop-cons, get_or-set_same, get_or-set_other, ltb→lt}
 use Rattle.std.proofs.Math.Bool.{true, false}
 use Rattle.std.specs.Float.{binary64}
@@ -24,10 +24,9 @@ use Rattle.rules.proofs.Least.{fits-timer}
 use Rattle.rules.specs.Kept as Kept
 use Rattle.marks.specs.declared.Mark.{Mark}
 use Rattle.marks.specs.declared.Mark.TheVariants.{Start, Stop}
-use Rattle.marks.specs.declared.Marking.{Marking}
-use Rattle.marks.specs.declared.Marking.TheVariants as held
-use Rattle.marks.specs.declared.Fetched.{Fetched}
-use Rattle.marks.specs.declared.Fetched.TheVariants as fetched
+use Rattle.marks.specs.declared.Unmarked.{Unmarked}
+use Rattle.marks.specs.declared.Unmarked.TheVariants as held
+use Rattle.marks.specs.declared.CutShort.{CutShort}
 use Rattle.marks.specs.Jobs.{jobs_in, fit_in, fetched_in}
 use Rattle.marks.specs.Marking.{marked_in}
 use Rattle.marks.specs.MarkingLaws.{is_held, fit-rules, unused_in, refused-keeps, marked-length, unused-kept, kept-fit}
@@ -35,9 +34,7 @@ use Rattle.events.specs.declared.Taken.{Taken}
 use Rattle.events.specs.declared.Taken.TheVariants as taken
 use Rattle.events.specs.Meaning.{handed_back, fate_of}
 use Rattle.stopwatch.specs.declared.StopwatchState.{StopwatchState}
-use Rattle.stopwatch.specs.declared.StopwatchTaken.{StopwatchTaken}
-use Rattle.stopwatch.specs.declared.StopwatchGone.{StopwatchGone}
-use Rattle.stopwatch.specs.declared.Named.TheVariants as named
+use Rattle.events.specs.declared.Handed.{Handed}
 use Rattle.stopwatch.specs.Watching.{names_of, stopwatch_of, unchanged, marked_as, marking, external_in, fetched_as, internal_from, internal_in}
 use Rattle.stopwatch.specs.WatchingLaws.{external-means, internal-means}
 use Rattle.memory.specs.Words.{word_at, place_at, place_in, head_at, phase_in, timer_in, held_in, own_in, Own, replaced}
@@ -124,15 +121,15 @@ stored-owns i b width lo hi s mem mid own = own-headed i b width lo hi mem (watc
 -- ---- an external event
 -- what holds of each answer holds of the event
 module _ (row : Stopwatch) (clock : Float) (port job : ℕ) (s : StopwatchState) (words : List ℕ) where
-  external-cases : (P : StopwatchTaken × List ℕ → Type 0)
+  external-cases : (P : Handed StopwatchState Taken × List ℕ → Type 0)
       → ((mark : Mark) → P (marking mark job clock s words))
-      → P (record { next = record { phase = watching.JobFetch; timer = instant; held = s.held }; answer = taken.Asked }, words)
+      → P (record { next = record { phase = watching.JobFetch; timer = instant; held = s.held }; answer = Ok taken.Asked }, words)
       → P (unchanged s InvalidMessage, words)
       → P (external_in row clock port job s words)
   unfolding external_in
   external-cases P marks asks other = go (eqb port row.start) (eqb port row.stop) (eqb port row.ask)
     where
-      go : (a b c : Bool) → P (if a then marking Start job clock s words else if b then marking Stop job clock s words else if c then (record { next = record { phase = watching.JobFetch; timer = instant; held = s.held }; answer = taken.Asked }, words) else (unchanged s InvalidMessage, words))
+      go : (a b c : Bool) → P (if a then marking Start job clock s words else if b then marking Stop job clock s words else if c then (record { next = record { phase = watching.JobFetch; timer = instant; held = s.held }; answer = Ok taken.Asked }, words) else (unchanged s InvalidMessage, words))
       go true b c = marks Start
       go false true c = marks Stop
       go false false true = asks
@@ -142,17 +139,17 @@ module _ (row : Stopwatch) (clock : Float) (port job : ℕ) (s : StopwatchState)
   external-long = external-cases (λ r. length r.1 ≡ length words) (λ mark. marked-length mark s.held job clock words) refl refl
 
   module _ (time : T (is_time clock)) (low : job < 2 ^ 32) (sound : Sound s words) where
-    marked-sound : (mark : Mark) (m : Marking) (after : List ℕ) → marked_in mark s.held job clock words ≡ (m, after) → Sound (marked_as s m).next after
-    marked-sound mark m after e = go m e (λ f. sym (ap (λ (r : Marking × List ℕ). r.1) e) ∙ refused-keeps mark s.held job clock words (ap (λ (r : Marking × List ℕ). is_held r.0) e ∙ f))
+    marked-sound : (mark : Mark) (m : Result ℕ Unmarked) (after : List ℕ) → marked_in mark s.held job clock words ≡ (m, after) → Sound (marked_as s m).next after
+    marked-sound mark m after e = go m e (λ f. sym (ap (λ (r : Result ℕ Unmarked × List ℕ). r.1) e) ∙ refused-keeps mark s.held job clock words (ap (λ (r : Result ℕ Unmarked × List ℕ). is_held r.0) e ∙ f))
       where
-        go : (m : Marking) → marked_in mark s.held job clock words ≡ (m, after) → (is_held m ≡ false → after ≡ words) → Sound (marked_as s m).next after
-        go (held.Held h) e same = record {
+        go : (m : Result ℕ Unmarked) → marked_in mark s.held job clock words ≡ (m, after) → (is_held m ≡ false → after ≡ words) → Sound (marked_as s m).next after
+        go (Ok h) e same = record {
           timer = sound.timer;
           fits = kept-fit mark s.held job clock words time sound.fits low h after e;
           unused = unused-kept mark s.held job clock words sound.unused h after e;
         }
-        go held.NoRoom e same = subst (Sound s) (sym (same refl)) sound
-        go held.CutShort e same = subst (Sound s) (sym (same refl)) sound
+        go (Err held.NoRoom) e same = subst (Sound s) (sym (same refl)) sound
+        go (Err held.CutShort) e same = subst (Sound s) (sym (same refl)) sound
 
     external-sound : Sound (external_in row clock port job s words).0.next (external_in row clock port job s words).1
     external-sound =
@@ -162,20 +159,20 @@ module _ (row : Stopwatch) (clock : Float) (port job : ℕ) (s : StopwatchState)
         sound
 
 -- what an answer says of the outcome
-refused-fate : (t : Taken) (x : Refusal) → answer_of t ≡ Err x → fate_of t ≡ refused x
+refused-fate : (t : Result Taken Refusal) (x : Refusal) → answer_of t ≡ Err x → fate_of t ≡ refused x
 refused-fate t x e = elim (answers t) [
   | goes_on f d is ↦ let z : ◌≡◌ {A = ℕ} 0 1 = cc in absurd (omega arith)
   | stops_at r d is ↦ let same : r ≡ x = cc in is ∙ ap refused same
 ]
 
-taken-fate : (t : Taken) → answer_of t ≡ Ok tt → (f : Fate) × (fate_of t ≡ done f)
+taken-fate : (t : Result Taken Refusal) → answer_of t ≡ Ok tt → (f : Fate) × (fate_of t ≡ done f)
 taken-fate t e = elim (answers t) [
   | goes_on f d is ↦ (f, is)
   | stops_at r d is ↦ let z : ◌≡◌ {A = ℕ} 0 1 = cc in absurd (omega arith)
 ]
 
 module _ (model : Stopwatch) (clock : Float) (port content b : ℕ) (mem : List ℕ) (i : ℕ) (row : Row (Table.stopwatch model) b mem i) (time : T (is_time clock)) (low : content < 2 ^ 32) where
-  abbrev came : StopwatchTaken × List ℕ
+  abbrev came : Handed StopwatchState Taken × List ℕ
   came = external_in model clock port content (loaded mem i) (own_in b 192 mem)
 
   abbrev outcome : List Float → Outcome (Simulation.State × ℕ × Fate)
@@ -221,9 +218,9 @@ module _ (model : Stopwatch) (clock : Float) (port content b : ℕ) (mem : List 
   took-owns = own-replaced i b 192 0 0 mem came.1 row.placed.room long
 
   -- the event as the code makes it: t is handed back and `mid` laid down; then it is refused, or the state is written
-  module _ (t : StopwatchTaken) (mid : List ℕ) (is : t ≡ came.0) (lays : mid ≡ replaced b 192 came.1 mem) where
+  module _ (t : Handed StopwatchState Taken) (mid : List ℕ) (is : t ≡ came.0) (lays : mid ≡ replaced b 192 came.1 mem) where
     answered : answer_of came.0.answer ≡ answer_of t.answer
-    answered = ap (λ (z : StopwatchTaken). answer_of z.answer) (sym is)
+    answered = ap (λ (z : Handed StopwatchState Taken). answer_of z.answer) (sym is)
 
     pub refused-in-place : (x : Refusal) → answer_of t.answer ≡ Err x → ((services : List Float) → outcome services ≡ refused x) × Own i b 192 0 0 mem mid
     refused-in-place x e = (took-refused x (answered ∙ e), subst (Own i b 192 0 0 mem) (sym lays) took-owns)
@@ -244,10 +241,9 @@ module _ (row : Stopwatch) (s : StopwatchState) (words : List ℕ) (sound : Soun
       rests : Sound (record { phase = watching.Passive; timer = never; held = s.held }) words
       rests = record { timer = never-timer; fits = sound.fits; unused = sound.unused }
 
-      fetches : (f : Fetched) → Sound (fetched_as s f).next words
-      fetches (fetched.Job name) = rests
-      fetches fetched.Nothing = rests
-      fetches fetched.CutShort = sound
+      fetches : (f : Result (Option ℕ) CutShort) → Sound (fetched_as s f).next words
+      fetches (Ok name) = rests
+      fetches (Err cut) = sound
 
       from-phase : (p : StopwatchPhase) → Sound (internal_from p row s words).next words
       from-phase watching.Passive = rests
@@ -259,7 +255,7 @@ one_out at mem port content l e low =
     ap (λ ws. map out_of (take 1 ws)) (drop-cons mem at 0 l) ∙ ap (λ w. out_of w ∷ []) e ∙ ap (λ o. o ∷ []) (out-read port content low)
 
 module _ (model : Stopwatch) (b : ℕ) (mem : List ℕ) (i : ℕ) (row : Row (Table.stopwatch model) b mem i) where
-  abbrev went : StopwatchGone
+  abbrev went : Handed StopwatchState (Option ℕ)
   went = internal_in model (loaded mem i) (own_in b 192 mem)
 
   abbrev leaving : List Float → Outcome (Simulation.State × ℕ × List Out)
@@ -275,7 +271,7 @@ module _ (model : Stopwatch) (b : ℕ) (mem : List ℕ) (i : ℕ) (row : Row (Ta
   went-names = ap (λ (z : Simulation.StopwatchState × Outcome (List ℕ)). z.1) went-means
 
   -- a name is a content
-  went-low : (name : ℕ) → went.answer ≡ named.Job name → name < 4294967296
+  went-low : (name : ℕ) → went.answer ≡ Ok (Some name) → name < 4294967296
   went-low name e = go (subst Kept.Contents names (Kept.stopwatch-internal model (stopwatch_in b mem i) (row-rules model b mem i row)).1)
     where
       names : (stopwatch_internal model (stopwatch_in b mem i)).1 ≡ name ∷ []
@@ -310,7 +306,7 @@ module _ (model : Stopwatch) (b : ℕ) (mem : List ℕ) (i : ℕ) (row : Row (Ta
           ∙ ap (λ z. done (Simulation.of_stopwatch (stopwatch_of went.next (own_in b 192 mem)), place_in mem, z)) (ap (map (out_at model.output)) is-names ∙ sym outs)
 
   -- a job's name goes out at `at`, past the row's own words
-  module _ (at : ℕ) (past : b + 192 ≤ at) (room : at < length mem) (name : ℕ) (e : went.answer ≡ named.Job name) where
+  module _ (at : ℕ) (past : b + 192 ≤ at) (room : at < length mem) (name : ℕ) (e : went.answer ≡ Ok (Some name)) where
     abbrev word : ℕ
     word = out_word model.output name
 
@@ -328,25 +324,25 @@ module _ (model : Stopwatch) (b : ℕ) (mem : List ℕ) (i : ℕ) (row : Row (Ta
         (one_out at (stored i went.next mid) model.output name (simp length-set room) mid-word (went-low name e))
 
   -- the event as the code makes it: g is handed back; then the name is put out and the state written, or the state alone
-  module _ (g : StopwatchGone) (is : g ≡ went) where
+  module _ (g : Handed StopwatchState (Option ℕ)) (is : g ≡ went) where
     same_answer : went.answer ≡ g.answer
-    same_answer = ap (λ (z : StopwatchGone). z.answer) (sym is)
+    same_answer = ap (λ (z : Handed StopwatchState (Option ℕ)). z.answer) (sym is)
 
     -- whole words are not refused
-    pub never-refused : (x : Refusal) → g.answer ≡ named.Refused x → ⊥
+    pub never-refused : (x : Refusal) → g.answer ≡ Err x → ⊥
     never-refused x e = let z : ◌≡◌ {A = ℕ} 0 1 = cc (went-names, ap names_of (same_answer ∙ e)) in omega arith
 
-    pub name-low : (name : ℕ) → g.answer ≡ named.Job name → name < 4294967296
+    pub name-low : (name : ℕ) → g.answer ≡ Ok (Some name) → name < 4294967296
     name-low name e = went-low name (same_answer ∙ e)
 
-    pub nothing-in-place : (at hi : ℕ) (after : List ℕ) → g.answer ≡ named.Nothing → after ≡ stored i g.next mem
+    pub nothing-in-place : (at hi : ℕ) (after : List ℕ) → g.answer ≡ Ok None → after ≡ stored i g.next mem
         → ((services : List Float) → Put-by 0 at (Table.stopwatch model) b i after (leaving services)) × Own i b 192 at hi mem after
     nothing-in-place at hi after e writes =
         subst (λ l. ((services : List Float) → Put-by 0 at (Table.stopwatch model) b i l (leaving services)) × Own i b 192 at hi mem l)
-        (sym (writes ∙ ap (λ (z : StopwatchGone). stored i z.next mem) is))
+        (sym (writes ∙ ap (λ (z : Handed StopwatchState (Option ℕ)). stored i z.next mem) is))
         (put-by mem [] 0 at refl refl refl (ap names_of (same_answer ∙ e)) (omega arith) refl, stored-owns i b 192 at hi went.next mem mem (own_same i b 192 at hi mem))
 
-    pub job-in-place : (at hi name : ℕ) (middle after : List ℕ) → b + 192 ≤ at → at < length mem → at < hi → g.answer ≡ named.Job name → middle ≡ set mem at (out_word model.output name) → after ≡ stored i g.next middle
+    pub job-in-place : (at hi name : ℕ) (middle after : List ℕ) → b + 192 ≤ at → at < length mem → at < hi → g.answer ≡ Ok (Some name) → middle ≡ set mem at (out_word model.output name) → after ≡ stored i g.next middle
         → ((services : List Float) → Put-by 1 at (Table.stopwatch model) b i after (leaving services)) × Own i b 192 at hi mem after
     job-in-place at hi name middle after past room low e puts writes =
         subst (λ l. ((services : List Float) → Put-by 1 at (Table.stopwatch model) b i l (leaving services)) × Own i b 192 at hi mem l)

@@ -12,8 +12,9 @@ ghost use Rattle.memory.specs.Atoms.{atom_external, atom_internal, Took, Gave};
 ghost use Rattle.memory.specs.Answers.{out_word};
 ghost use Rattle.watch_rows.specs.Places.{loaded, stored, external_at, internal_at};
 
+use events::{Handed, Taken};
 use rules::{Refusal, Stopwatch, StopwatchPhase};
-use stopwatch::{Named, StopwatchGone, StopwatchState, StopwatchTaken};
+use stopwatch::StopwatchState;
 
 fn load_stopwatch(mem: &[u64], row: usize) -> StopwatchState
     requires { (head_at row + 4 ≤ length mem.now) × T (is_timer (of_bits binary64 (timer_in mem.now row))) }
@@ -56,7 +57,7 @@ fn take_in_place(
     clock: f64,
     port: u16,
     content: u32,
-) -> StopwatchTaken
+) -> Handed<StopwatchState, Taken>
     requires { Row (Table.stopwatch model) (begin_in mem.old row) mem.old row }
     ensures answers { result ≡ (external_at model clock port content mem.old row).0 }
     ensures lays { mem.new ≡ replaced (begin_in mem.old row) 192 (external_at model clock port content mem.old row).1 mem.old }
@@ -68,7 +69,7 @@ fn take_in_place(
 }
 
 // The rule on the row's state and own words.
-fn go_in_place(mem: &[u64], row: usize, model: Stopwatch) -> StopwatchGone
+fn go_in_place(mem: &[u64], row: usize, model: Stopwatch) -> Handed<StopwatchState, Option<u64>>
     requires { Row (Table.stopwatch model) (begin_in mem.now row) mem.now row }
     ensures { result ≡ internal_at model mem.now row }
 {
@@ -125,15 +126,15 @@ pub fn stopwatch_internal(
     let gone = go_in_place(mem, row, model);
     let answer = gone.answer;
     match answer {
-        Named::Job(name) => {
+        Ok(Some(name)) => {
             put_out(mem, at, model.output, name);
             store_stopwatch(mem, row, gone.next);
             Ok(1)
         }
-        Named::Nothing => {
+        Ok(None) => {
             store_stopwatch(mem, row, gone.next);
             Ok(0)
         }
-        Named::Refused(refusal) => Err(refusal),
+        Err(refusal) => Err(refusal),
     }
 }

@@ -6,7 +6,8 @@ use mathlib.Core.List.{List}
 use lib.ListN.{take, drop}
 use Rattle.rules.specs.declared.Stopwatch.{Stopwatch}
 use Rattle.stopwatch.specs.declared.StopwatchState.{StopwatchState}
-use Rattle.stopwatch.specs.declared.StopwatchGone.{StopwatchGone}
+use Rattle.std.proofs.Common.{Option, ℕ}
+use Rattle.events.specs.declared.Handed.{Handed}
 use Rattle.stopwatch.specs.Watching.{internal_in}
 use Rattle.memory.specs.Words.{begin_in}
 use Rattle.watch_rows.specs.Places.{loaded, internal_at}
@@ -15,7 +16,7 @@ use Rattle.watch_rows.specs.WatchLaws.{row-timer}
 use Rattle.watch_rows.proofs.go_in_place.Goals as goal
 
 -- the words lent are the row's own
-lent : (model : Stopwatch) (mem : List ℕ) (i begin : ℕ) (state : StopwatchState) (r : StopwatchGone) → begin ≡ begin_in mem i → state ≡ loaded mem i
+lent : (model : Stopwatch) (mem : List ℕ) (i begin : ℕ) (state : StopwatchState) (r : Handed StopwatchState (Option ℕ)) → begin ≡ begin_in mem i → state ≡ loaded mem i
     → r ≡ internal_in model state (take (begin + 192 - begin) (drop begin mem)) → r ≡ internal_at model mem i
 lent model mem i begin state r b s e = e ∙ ap (internal_in model state) (lent-own begin 192 mem) ∙ rw (b, s)
 
