@@ -76,6 +76,7 @@ pub enum Kind {
 }
 
 // The parts of a table, each with rules of its own.
+// kept: `keeps_in`, `first_bad_in` and the theorem `all-kept` are by these three parts; a trait would say each again.
 #[derive(Clone, Copy)]
 enum Part {
     Models,
@@ -426,6 +427,7 @@ fn keeps(
     }
 }
 
+// kept: a match on the part, as `Judging.width_of` is; the theorems on rows go by it.
 fn width_of(part: Part) -> usize
     ensures { result ≡ Judging.width_of part }
 {
