@@ -88,7 +88,6 @@ fn counted(counts: Counts, page: Page, room: bool) -> Result<Counts, Expected>
 }
 
 // Puts a row on its page, and counts it.
-// kept: five slices and no struct of them, since its contract would have to say too that each field stays the reference that it was
 fn put_item(
     models: &mut [u64],
     connectors: &mut [u64],
@@ -101,6 +100,7 @@ fn put_item(
 ) -> Result<Counts, Expected>
     ensures { filing counts result (pages_at models.new connectors.new couplings.new services.new actions.new) ≡ file_in page cells counts (pages_at models.old connectors.old couplings.old services.old actions.old) }
 {
+    // kept: five slices and no struct of them, since its contract would have to say too that each field stays the reference that it was
     let room = match page {
         Page::Models => put_row(models, 10, counts.models, cells),
         Page::Connectors => put_row(connectors, 4, counts.connectors, cells),
@@ -236,7 +236,6 @@ fn left_after(on: bool, left: usize) -> usize
 }
 
 // The number of the line that a row of a page was read from, rows counted from 0 and lines from 1; 0 where there is no such row.
-// kept: the theorem `row-stands` says of this number that the row stands there, and who asks has such a row: with an Option each would write `unwrap_or(0)`.
 pub fn line_of(text: &[u8], page: Page, row: usize) -> u64
     ensures { result ≡ line_of page row text.now }
 {
@@ -255,5 +254,6 @@ pub fn line_of(text: &[u8], page: Page, row: usize) -> u64
         left = left_after(on, left);
         at = next_line(text, end);
     }
+    // kept: the theorem `row-stands` says of this number that the row stands there, and who asks has such a row: with an Option each would write `unwrap_or(0)`.
     0
 }

@@ -157,10 +157,10 @@ const VALUES: [Value; 6] = [
 
 // The fields of each item, four hex digits each: word and value by their places in WORDS and VALUES, flag, cell; in the order word,
 // flag, value, cell. Zeros after them ask for the line's end.
-// kept: the theorems `decoded` and `one-at-a-time` speak of forms in these digits.
 fn form_of(item: Item) -> [u8; 32]
     ensures { result ≡ form_of item }
 {
+    // kept: the theorems `decoded` and `one-at-a-time` speak of forms in these digits.
     match item {
         Item::Processor => *b"00101113201430174238000000000000",
         Item::Batcher => *b"00101113201430175038604900000000",
@@ -202,10 +202,10 @@ fn start_of(item: Item) -> [u64; 10]
 }
 
 // Texts are 32 bytes long, filled up with dots.
-// kept: `word_text` and `wanted_text` promise all 32 bytes, so that a slice of the text alone would promise less.
 fn item_text(item: Item) -> [u8; 32]
     ensures { result ≡ item_text item }
 {
+    // kept: `word_text` and `wanted_text` promise all 32 bytes, so that a slice of the text alone would promise less.
     match item {
         Item::Processor => *b"processor.......................",
         Item::Batcher => *b"batcher.........................",

@@ -84,7 +84,6 @@ pub fn next_word(line: &[u8], from: usize) -> Span
 }
 
 // A byte as a digit; 16 where it is none.
-// kept: 16 and no None, since it is no digit in any base here, and the theorems of Decimals compare `digit_of` with bases.
 #[tactic(auto, unfolding(crate::specs::Numbers::digit_of))]
 pub fn digit(b: u8) -> u64
     ensures { result ≡ digit_of b }
@@ -93,6 +92,7 @@ pub fn digit(b: u8) -> u64
         b'0'..=b'9' => (b - b'0') as u64,
         b'A'..=b'F' => (b - b'A') as u64 + 10,
         b'a'..=b'f' => (b - b'a') as u64 + 10,
+        // kept: 16 and no None, since it is no digit in any base here, and the theorems of Decimals compare `digit_of` with bases.
         _ => 16,
     }
 }
