@@ -46,12 +46,14 @@ fn write_row(cells: &mut [u64]) -> usize
     1
 }
 
+// kept: `omitted` and this differ in more than a type, as one only reads what is lent and the other writes it
 // Writes `queue_capacity` out in each Processor row that omits it: 2^64 - 1, which it once was. How many they were.
 pub fn write_out(models: &mut [u64]) -> usize
     ensures counts { result ≡ omitted_in models.old }
     ensures writes { models.new ≡ written_out models.old }
 {
     let mut count = 0;
+    // kept: the rows are taken by their numbers, since nothing is known of a slice after a loop over its `chunks_exact_mut`
     for row in 0..models.len() / 10 {
         count += write_row(&mut models[10 * row..10 * row + 10]);
     }

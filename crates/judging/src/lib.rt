@@ -40,6 +40,7 @@ fn is_untouched(words: &[u64]) -> bool
 }
 
 // An answer of so many words: what was told begins with them, and behind them nothing was written.
+// kept: the count stands beside the answer, since the words behind it are looked at too
 pub fn answer(answer: &[u64], count: usize, said: &[u64]) -> Result<(), Differs>
     ensures { result ≡ answer_seen answer.now count said.now }
 {

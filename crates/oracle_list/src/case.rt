@@ -37,7 +37,13 @@ fn left(state: &[u64], told: &mut [u64], changes: &[u64]) -> Result<(), Differs>
 }
 
 // The state after a call whose answer is the oracle's.
-fn after(asked: &[u64], said: &[u64], state: &[u64], told: &mut [u64], count: usize) -> Result<(), Differs> {
+fn after(
+    asked: &[u64],
+    said: &[u64],
+    state: &[u64],
+    told: &mut [u64],
+    count: usize,
+) -> Result<(), Differs> {
     let used = begin(asked, said, told, count);
     if said.len() < used {
         return Err(Differs::Wrong);

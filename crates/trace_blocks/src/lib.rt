@@ -66,44 +66,29 @@ fn both(pair: u64) -> u64
     pair % WORD_LIMIT + pair / WORD_LIMIT
 }
 
+#[tactic(auto, unfolding(crate::specs::Blocks::is_kind))]
 fn is_kind(kind: BlockKind) -> bool
     ensures { result ≡ is_kind kind }
 {
     let width = kind.width;
     let most = kind.most;
-    if width < 1 {
-        return false;
-    }
-    if most < 1 {
-        return false;
-    }
-    most <= MOST_NUMBERS / width
+    1 <= width && 1 <= most && most <= MOST_NUMBERS / width
 }
 
+#[tactic(auto, unfolding(crate::specs::Blocks::fills_block))]
 fn fills_block(kind: BlockKind, numbers: usize) -> bool
     requires { is_kind kind ≡ true }
     ensures { result ≡ fills_block kind numbers }
 {
     let width = kind.width;
-    if numbers < 1 {
-        return false;
-    }
-    if numbers % width != 0 {
-        return false;
-    }
-    numbers <= width * kind.most
+    1 <= numbers && numbers % width == 0 && numbers <= width * kind.most
 }
 
+#[tactic(auto, unfolding(crate::specs::Blocks::can_write))]
 fn can_write(kind: BlockKind, numbers: usize, room: usize) -> bool
     ensures { result ≡ can_write kind numbers room }
 {
-    if !is_kind(kind) {
-        return false;
-    }
-    if !fills_block(kind, numbers) {
-        return false;
-    }
-    BLOCK_BYTES <= room
+    is_kind(kind) && fills_block(kind, numbers) && BLOCK_BYTES <= room
 }
 
 // The rows' numbers from the second pair on, and the sum of their words.
@@ -154,6 +139,7 @@ fn put_block(kind: BlockKind, number: u32, rows: &[u64], block: &mut [u8])
 
 // The block of these rows, which stand number after number, at the start of what is lent for it. False, and nothing is written,
 // where they are no rows of one block, or there is no room.
+#[tactic(auto, unfolding(crate::specs::Blocks::written_block))]
 pub fn write_block(kind: BlockKind, number: u32, rows: &[u64], block: &mut [u8]) -> bool
     ensures answers { result ≡ can_write kind (length rows.now) (length block.old) }
     ensures leaves { block.new ≡ written_block kind number rows.now block.old }
@@ -194,16 +180,7 @@ fn count_fits(kind: BlockKind, count: u64, ends: bool) -> bool
     ensures { result ≡ hold (leb 1 count ∷ leb count kind.most ∷ (ends || eqb count kind.most) ∷ []) }
 {
     let most = kind.most as u64;
-    if count < 1 {
-        return false;
-    }
-    if most < count {
-        return false;
-    }
-    if ends {
-        return true;
-    }
-    count == most
+    1 <= count && count <= most && (ends || count == most)
 }
 
 // How many rows a block has that stands in a file as this number, and ends it or not; none where it is no block of that kind.
@@ -248,6 +225,7 @@ fn copy_numbers(block: &[u8], rows: &mut [u64])
 }
 
 // The numbers of a block's rows, so many as are lent room for. Where these are more than a block holds, or it is shorter than a block, nothing is written.
+#[tactic(auto, unfolding(crate::specs::Pairs::numbers_out))]
 pub fn read_numbers(block: &[u8], rows: &mut [u64])
     ensures { rows.new ≡ numbers_out block.now rows.old }
 {

@@ -28,6 +28,7 @@ fn pieces_of(each: usize, n: usize) -> usize
     n.div_ceil(each)
 }
 
+// kept: `is_kind` stands in six contracts here and is no invariant of `BlockKind`, since `trace_blocks` takes what is no kind too and says that it has no block
 // How many bytes the blocks of so many numbers of rows have; 0 where there are too many.
 fn bytes_for(kind: BlockKind, numbers: usize) -> usize
     requires { is_kind kind ≡ true }
