@@ -20,11 +20,7 @@ pub fn copy(dst: &mut [u64], src: &[u64], start: usize, n: usize)
     requires { (start + n ≤ length src.now) × (n ≤ length dst.old) }
     ensures { dst.new ≡ copied start n src.now dst.old }
 {
-    let mut k = 0;
-    while k < n {
-        dst[k] = src[start + k];
-        k += 1;
-    }
+    dst[..n].copy_from_slice(&src[start..start + n]);
 }
 
 // The `count` messages that stand from `active` on, as rows from the start of an output. All beyond stays.
@@ -66,11 +62,7 @@ fn copy_between(dst: &mut [u64], src: &[u64], from: usize, to: usize)
     requires { (from ≤ to) × (to ≤ length src.now) × (to ≤ length dst.old) }
     ensures { Brought from to src.now dst.old dst.new }
 {
-    let mut k = from;
-    while k < to {
-        dst[k] = src[k];
-        k += 1;
-    }
+    dst[from..to].copy_from_slice(&src[from..to]);
 }
 
 // At least as many places of a column as the one or the other uses, by fours: a machine copies four words in one turn of a loop.
@@ -78,10 +70,7 @@ fn either_held(a: u64, b: u64) -> usize
     requires { (a ≤ 64) × (b ≤ 64) }
     ensures { (a ≤ result) × (b ≤ result) × (result ≤ 64) }
 {
-    if a < b {
-        return ((b + 3) / 4 * 4) as usize;
-    }
-    ((a + 3) / 4 * 4) as usize
+    (a.max(b) as usize).next_multiple_of(4)
 }
 
 // A row's own words, in columns of 64 from `begin` to before `next`, of which at most the first `held` are in use in either.
@@ -96,10 +85,8 @@ fn copy_row(dst: &mut [u64], src: &[u64], begin: usize, next: usize, held: usize
         copy_between(dst, src, begin, begin + held);
         return;
     }
-    let mut at = begin;
-    while at < next {
+    for at in (begin..next).step_by(64) {
         copy_between(dst, src, at, at + held);
-        at += 64;
     }
 }
 
@@ -108,10 +95,8 @@ fn copy_rows(dst: &mut [u64], src: &[u64], rows: usize, end: usize)
     requires { Lends rows end src.now dst.old }
     ensures { Brought (head_at rows) end src.now dst.old dst.new }
 {
-    let mut row = rows;
     let mut next = end;
-    while row > 0 {
-        row -= 1;
+    for row in (0..rows).rev() {
         let begin = memory::begin_at(src, row);
         let held = either_held(memory::held_at(src, row), memory::held_at(dst, row));
         copy_row(dst, src, begin, next, held);

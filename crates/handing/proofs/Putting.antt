@@ -22,7 +22,7 @@ use Rattle.memory.specs.Answers.{out_word}
 use Rattle.memory.specs.AnswerLaws.{out-read}
 use Rattle.lookup.specs.Inside.{Inside, table_in, couplings_in}
 use Rattle.lookup.specs.InsideLaws.{outputs-in}
-use Rattle.sweeps.specs.Sweeps.{Leads, Onward, onward-start, onward-on, onward_stops, onward-none, onward-end}
+use Rattle.sweeps.specs.Sweeps.{Leads, Onward, onward-start, onward-on, onward_stops, onward-none}
 use Rattle.sweeps.specs.Appends.{one_more, few-enough, too_many, appended}
 use Rattle.handing.specs.Handing.{outs_from, Adds-to, Beside}
 
@@ -117,6 +117,3 @@ module _ (state : List ℕ) (owner source port content at count : ℕ) (mem₀ :
 
       pub put-none : first_from is_out k (couplings - k) ≡ None → Adds-to held at count (outs_from (table_in state) owner source port content) mem₀ mem
       put-none found = ended (onward-none put_at is_out k couplings (λ log. puts_all) (λ log. outs_in at held mem) so_far.onward found)
-
-      pub put-end : couplings ≤ k → Adds-to held at count (outs_from (table_in state) owner source port content) mem₀ mem
-      put-end past = ended (onward-end put_at is_out k couplings (λ log. puts_all) (λ log. outs_in at held mem) so_far.onward past)

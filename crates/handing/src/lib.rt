@@ -27,6 +27,7 @@ fn park_all(
     ensures frame { Frame (table_in state.now) 0 0 mem.old mem.new }
 {
     let owner = lookup::id_of(state, row);
+    // kept: `from` is where the next search begins; an iterator would be a struct with ghost clauses for each kind of search
     let mut from = 0;
     while let Some(coupling) = lookup::next_internal(state, from, owner, source, port) {
         let to = lookup::coupling_target(state, coupling);
@@ -52,6 +53,7 @@ fn put_all(
     ensures beside { Beside at mem.old mem.new }
 {
     let mut held = count;
+    // kept: `from` is where the next search begins; an iterator would be a struct with ghost clauses for each kind of search
     let mut from = 0;
     while let Some(coupling) = lookup::next_output(state, from, owner, source, port) {
         if held == 256 {

@@ -20,15 +20,13 @@ fn next_for(mem: &[u64], active: usize, k: usize, count: usize, id: u64) -> usiz
     requires { (active + 1536 ≤ length mem.now) × (count ≤ 256) }
     ensures { result ≡ stop_from (is_for active mem.now id) k (count - k) }
 {
-    let mut next = k;
-    while next < count {
+    for next in k..count {
         let at = active + next * 6;
         if mem[at + 2] == id {
             return next;
         }
-        next += 1;
     }
-    next
+    k.max(count)
 }
 
 // The first row from `from` on that an active message is for; past the last if there is none.
@@ -37,14 +35,12 @@ fn next_addressed(state: &[u64], mem: &[u64], from: usize, active: usize, count:
     ensures { result ≡ stop_from (is_addressed (table_in state.now) active count mem.now) from (length (table_in state.now).rows - from) }
 {
     let end = lookup::row_count(state);
-    let mut row = from;
-    while row < end {
+    for row in from..end {
         if next_for(mem, active, 0, count, lookup::id_of(state, row)) < count {
             return row;
         }
-        row += 1;
     }
-    row
+    from.max(end)
 }
 
 // Each model without parent, in row order, takes the active messages that are for it, in list order. These stand from `active` on, `count` of them.
@@ -60,20 +56,14 @@ pub fn take_all(
     ensures does { Does result (Step.taken (table_in state.now) services.now clock (messages_in active count mem.old)) (table_in state.now) mem.old mem.new }
     ensures frame { Frame (table_in state.now) 0 0 mem.old mem.new }
 {
-    let end = lookup::row_count(state);
+    // kept: an iterator over the models that are addressed would borrow `mem`, which each event writes
     let mut from = 0;
-    while from < end {
-        let addressed = next_addressed(state, mem, from, active, count);
-        match lookup::next_parentless(state, addressed) {
-            None => return Ok(()),
-            Some(row) => {
-                match take_for(state, services, mem, clock, row, active, count) {
-                    Ok(()) => {}
-                    Err(refusal) => return Err(refusal),
-                }
-                from = row + 1;
-            }
-        }
+    while let Some(row) = lookup::next_parentless(
+        state,
+        next_addressed(state, mem, from, active, count),
+    ) {
+        take_for(state, services, mem, clock, row, active, count)?;
+        from = row + 1;
     }
     Ok(())
 }
@@ -93,12 +83,10 @@ fn take_for(
     ensures frame { Frame (table_in state.now) 0 0 mem.old mem.new }
 {
     let id = lookup::id_of(state, row);
+    // kept: an iterator over the messages for this id would borrow `mem`, which each event writes
     let mut k = next_for(mem, active, 0, count, id);
     while k < count {
-        match take_one(state, services, mem, clock, row, active, k) {
-            Ok(()) => {}
-            Err(refusal) => return Err(refusal),
-        }
+        take_one(state, services, mem, clock, row, active, k)?;
         k = next_for(mem, active, k + 1, count, id);
     }
     Ok(())

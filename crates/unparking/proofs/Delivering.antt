@@ -19,7 +19,7 @@ use Rattle.memory.specs.Words.{head_at, held_in, begin_in}
 use Rattle.memory.specs.View.{parked_in}
 use Rattle.views.specs.World.{begin_of, Frame, Does}
 use Rattle.views.proofs.Frames.{frame_then}
-use Rattle.sweeps.specs.Loops.{all_of, Going, going_start, going_on, going-stops, going-none, going_end}
+use Rattle.sweeps.specs.Loops.{all_of, Going, going_start, going_on, going-stops, going-none}
 use Rattle.model_events.specs.Events.{Event}
 use Rattle.views.proofs.Timers.{head-here}
 use Rattle.unparking.specs.Unparking.{parked_at, is_for, handed, takes}
@@ -90,9 +90,6 @@ module _ {state : List ℕ} {services : List Float} {depth : ℕ} {clock : Float
 
   as-whole : (after : List ℕ) (r : Result ⊤ Refusal) → Does r (all_of t next (is_for id begin mem₀) mem₀ held) t mem₀ after → Does r (whole state services depth clock row j id begin held mem₀) t mem₀ after
   as-whole = takes-does t row inside d.asked.is mem₀ d.asked.event.scene.ready services depth clock j id begin held d.named d.starts d.holds
-
-  pub deliver-end : held ≤ from → Delivers state services depth clock row j id begin held mem₀ (Ok tt) mem
-  deliver-end past = (as-whole mem (Ok tt) (going_end t next (is_for id begin mem₀) mem₀ held from mem d.going past), d.going.frame)
 
   module _ {found : Option ℕ} (searched : found ≡ first_from (is_for id begin mem) from (held - from)) where
     first : (x : Option ℕ) → found ≡ x → first_from (is_for id begin mem₀) from (held - from) ≡ x

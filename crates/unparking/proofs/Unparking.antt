@@ -22,7 +22,7 @@ use Rattle.lookup.specs.InsideLaws.{in-components, sizes-in}
 use Rattle.memory.specs.View.{parked_in}
 use Rattle.views.specs.World.{begin_of, Frame, Does}
 use Rattle.views.proofs.Frames.{frame_then}
-use Rattle.sweeps.specs.Loops.{all_of, Going, going_start, going_on, going-stops, going-none, going_end}
+use Rattle.sweeps.specs.Loops.{all_of, Going, going_start, going_on, going-stops, going-none}
 use Rattle.model_events.specs.Events.{Event}
 use Rattle.model_events.specs.DueHere.{is_one, found-next}
 use Rattle.unparking.specs.Unparking.{takes}
@@ -78,9 +78,6 @@ module _ {state : List ℕ} {services : List Float} {depth : ℕ} {clock : Float
 
   as-whole : (after : List ℕ) (r : Result ⊤ Refusal) → Does r (all_of t next (is_one t owner) mem₀ end) t mem₀ after → Does r (whole state services depth clock row owner end mem₀) t mem₀ after
   as-whole after r = unpark-does t services depth clock row owner end list u.owned u.ends mem₀ after r
-
-  pub unpark-end : end ≤ from → Unparks state services depth clock row owner end mem₀ (Ok tt) mem
-  unpark-end past = (as-whole mem (Ok tt) (going_end t next (is_one t owner) mem₀ end from mem u.going past), u.going.frame)
 
   module _ {found : Option ℕ} (searched : found ≡ first_from (is_one t owner) from (length t.rows - from)) where
     first : (x : Option ℕ) → found ≡ x → first_from (is_one t owner) from (end - from) ≡ x

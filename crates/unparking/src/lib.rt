@@ -29,19 +29,11 @@ pub fn unpark(
     ensures frame { Frame (table_in state.now) 0 0 mem.old mem.new }
 {
     let owner = lookup::id_of(state, row);
-    let end = lookup::row_count(state);
+    // kept: `from` is where the next search begins; an iterator would be a struct with ghost clauses for each kind of search
     let mut from = 0;
-    while from < end {
-        match lookup::next_component(state, from, owner) {
-            None => return Ok(()),
-            Some(component) => {
-                match deliver(state, services, mem, depth, clock, row, component) {
-                    Ok(()) => {}
-                    Err(refusal) => return Err(refusal),
-                }
-                from = component + 1;
-            }
-        }
+    while let Some(component) = lookup::next_component(state, from, owner) {
+        deliver(state, services, mem, depth, clock, row, component)?;
+        from = component + 1;
     }
     Ok(())
 }
@@ -63,19 +55,12 @@ fn deliver(
     let id = lookup::id_of(state, component);
     let begin = memory::begin_at(mem, row);
     let held = memory::held_at(mem, row) as usize;
+    // kept: an iterator over the places for this id would borrow `mem`, which each event writes
     let mut from = 0;
-    while from < held {
-        match next_for(mem, begin, held, from, id) {
-            None => return Ok(()),
-            Some(place) => {
-                let word = mem[begin + place];
-                match hand_over(state, services, mem, depth, clock, component, word) {
-                    Ok(()) => {}
-                    Err(refusal) => return Err(refusal),
-                }
-                from = place + 1;
-            }
-        }
+    while let Some(place) = next_for(mem, begin, held, from, id) {
+        let word = mem[begin + place];
+        hand_over(state, services, mem, depth, clock, component, word)?;
+        from = place + 1;
     }
     Ok(())
 }
@@ -85,12 +70,10 @@ fn next_for(mem: &[u64], begin: usize, held: usize, from: usize, id: u64) -> Opt
     requires { begin + held ≤ length mem.now }
     ensures { result ≡ first_from (is_for id begin mem.now) from (held - from) }
 {
-    let mut place = from;
-    while place < held {
+    for place in from..held {
         if mem[begin + place] / 0x1_0000_0000_0000 == id {
             return Some(place);
         }
-        place += 1;
     }
     None
 }

@@ -2,34 +2,13 @@
 use Prim.Native.Nat.{suc, ◌-◌}
 use mathlib.Core.Path.{◌≡◌, refl, ◌∙◌}
 use native.Mathlib.Omega.{arith}
-use Rattle.copying.specs.SparingLaws.{going_start, going_end, head-room, few-held, row-alike, going_on}
+use Rattle.copying.specs.SparingLaws.{going_start, few-held, row-alike, going_on}
 use Rattle.copying.proofs.copy_rows.Goals as goal
 
 pub loop-row-init : goal.loop-row-init
 loop-row-init c =
     let a = c.args in
     (refl, going_start a.rows a.end a.src.now a.dst.now c.requires)
-
-pub begin_at-begin-requires : goal.begin_at-begin-requires
-begin_at-begin-requires c =
-    let a = c.args in
-    let l = c.loop-row in
-    let one : l.row ≡ suc (l.row - 1) = omega (arith, c.loop-row-test.true) in
-    (head-room a.rows a.end a.src.now a.dst.now l.dst l.row l.next (l.row - 1) l.invariant.1 one).0
-
-pub held_at-requires : goal.held_at-requires
-held_at-requires c =
-    let a = c.args in
-    let l = c.loop-row in
-    let one : l.row ≡ suc (l.row - 1) = omega (arith, c.loop-row-test.true) in
-    (head-room a.rows a.end a.src.now a.dst.now l.dst l.row l.next (l.row - 1) l.invariant.1 one).0
-
-pub held_at-requires-in-loop-row : goal.held_at-requires-in-loop-row
-held_at-requires-in-loop-row c =
-    let a = c.args in
-    let l = c.loop-row in
-    let one : l.row ≡ suc (l.row - 1) = omega (arith, c.loop-row-test.true) in
-    (head-room a.rows a.end a.src.now a.dst.now l.dst l.row l.next (l.row - 1) l.invariant.1 one).1
 
 pub either_held-held-requires : goal.either_held-held-requires
 either_held-held-requires c =
@@ -52,9 +31,3 @@ loop-row-preserved c =
     let l = c.loop-row in
     let one : l.row ≡ suc (l.row - 1) = omega (arith, c.loop-row-test.true) in
     (c.copy_row.auto.dst ∙ l.invariant.0, going_on a.rows a.end a.src.now a.dst.now l.dst l.row l.next (l.row - 1) l.invariant.1 one c.begin_at-begin.result c.either_held-held.result c.begin_at-begin.ensures (omega (arith, c.either_held-held.ensures.0, c.held_at.ensures)) (omega (arith, c.either_held-held.ensures.1, c.held_at-in-loop-row.ensures)) c.either_held-held.ensures.2 c.copy_row.new.dst c.copy_row.ensures)
-
-pub returns : goal.returns
-returns c =
-    let a = c.args in
-    let l = c.loop-row in
-    going_end a.rows a.end a.src.now a.dst.now l.dst l.row l.next l.invariant.1 (omega (arith, c.loop-row-test.false))

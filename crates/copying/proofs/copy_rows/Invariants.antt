@@ -7,6 +7,3 @@ use Rattle.copying.proofs.copy_rows.Given as goal
 abbrev pub invariant-loop-row : goal.invariant-loop-row
 invariant-loop-row l =
     (length l.dst ≡ length l.initial.dst) × Going l.rows l.end l.src l.initial.dst l.dst l.row l.next
-
-abbrev pub decreases-loop-row : goal.decreases-loop-row
-decreases-loop-row l = l.row

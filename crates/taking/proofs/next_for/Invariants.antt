@@ -8,7 +8,3 @@ use Rattle.taking.proofs.next_for.Given as goal
 abbrev pub invariant-loop-next : goal.invariant-loop-next
 invariant-loop-next l =
     stop_from (is_for l.active l.mem l.id) l.next (l.count - l.next) ≡ stop_from (is_for l.active l.mem l.id) l.k (l.count - l.k)
-
-abbrev pub decreases-loop-next : goal.decreases-loop-next
-decreases-loop-next l =
-    l.count - l.next

@@ -8,6 +8,3 @@ use Rattle.unparking.proofs.next_for.Given as goal
 abbrev pub invariant-loop-place : goal.invariant-loop-place
 invariant-loop-place l =
     first_from (is_for l.id l.begin l.mem) l.place (l.held - l.place) ≡ first_from (is_for l.id l.begin l.mem) l.from (l.held - l.from)
-
-abbrev pub decreases-loop-place : goal.decreases-loop-place
-decreases-loop-place l = l.held - l.place
