@@ -1,5 +1,5 @@
 -- The laws of what a stored state is asked: the changing part as it is lent, a row's status by the kind that a reader names, and the search for a model without parent by its id. Assumes nothing.
-use Rattle.std.specs.Prelude.{ℕ, suc, ◌+◌, ◌-◌, ◌≤◌, ◌<◌, ◌≡◌, refl, Bool, List, [], ◌∷◌, length, take, drop, T, eqb, Float, None, Some, Option}
+use Rattle.std.specs.Prelude.{ℕ, suc, ◌+◌, ◌-◌, ◌≤◌, ◌<◌, ◌≡◌, refl, Bool, List, [], ◌∷◌, length, take, drop, T, eqb, Float, None, Some, Option, Ok}
 use Rattle.std.proofs.Common.{sym, ap, ◌∙◌, arith, le_of_eq, add-one, eq-eqb, ne_eqb, length-drop, take_all, length-take-le, leb→le}
 use Rattle.std.proofs.Math.Nat.{sub-zero}
 use Rattle.std.proofs.lemmas.List.{length-map}
@@ -17,7 +17,7 @@ use Rattle.words.specs.Lists.{part_length}
 use Rattle.words.specs.Search.{first_from}
 use Rattle.words.specs.SearchLaws.{search-end, first-at, first-nothing}
 use Rattle.words.specs.Queue.{queue_in}
-use Rattle.marks.specs.Jobs.{jobs_in, some_mean, mean_in}
+use Rattle.marks.specs.Jobs.{jobs_in, mean_in}
 use Rattle.marks.specs.MarkingLaws.{fit-rules}
 use Rattle.table.specs.declared.Kind.{Kind}
 use Rattle.table.specs.declared.Kind.TheVariants as kind
@@ -48,7 +48,7 @@ status_named (kind.Stopwatch w) b mem i = mean_told (mean_in (held_in mem i) (ow
 status_named kind.Coupled b mem i = status.Parked (held_in mem i)
 status_named kind.Broken b mem i = status.NoMean
 
-mean-said : (m : Option Float) → mean_told (some_mean m) ≡ status_told (Calls.Mean m)
+mean-said : (m : Option Float) → mean_told (Ok m) ≡ status_told (Calls.Mean m)
 mean-said None = refl
 mean-said (Some x) = refl
 

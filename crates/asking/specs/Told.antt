@@ -1,9 +1,8 @@
 -- A status as it is answered. Definitions only. Assumes nothing.
-use Rattle.std.specs.Prelude.{None, Some}
+use Rattle.std.specs.Prelude.{None, Some, Option, Result, Ok, Err, Float}
 use Rattle.rules.specs.Base.{Outcome, refused, done}
 use Rattle.rules.specs.Calls as Calls
-use Rattle.marks.specs.declared.MeanOf.{MeanOf}
-use Rattle.marks.specs.declared.MeanOf.TheVariants as meaning
+use Rattle.marks.specs.declared.CutShort.{CutShort}
 use Rattle.asking.specs.declared.Status.{Status}
 use Rattle.asking.specs.declared.Status.TheVariants as status
 
@@ -20,7 +19,7 @@ status_answered (refused r) = status.Refused r
 status_answered (done s) = status_told s
 
 -- a stopwatch's, from its words. Those of a stored state are not cut short
-abbrev pub mean_told : MeanOf → Status
-mean_told (meaning.Mean mean) = status.Mean mean
-mean_told meaning.Nothing = status.NoMean
-mean_told meaning.CutShort = status.NoMean
+abbrev pub mean_told : Result (Option Float) CutShort → Status
+mean_told (Ok (Some mean)) = status.Mean mean
+mean_told (Ok None) = status.NoMean
+mean_told (Err cut) = status.NoMean

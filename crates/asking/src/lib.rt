@@ -13,7 +13,6 @@ ghost use Rattle.rerunning.specs.Running.{sim_of};
 ghost use Rattle.storing.specs.State.{is_stored};
 ghost use Rattle.asking.specs.Told.{mean_told, status_told, status_answered};
 
-use marks::MeanOf;
 use rules::{BatcherPhase, ProcessorPhase, Refusal};
 use table::Kind;
 
@@ -56,9 +55,8 @@ fn mean_of(own: &[u64], held: u64) -> Status
     ensures { result ≡ mean_told (mean_in held own.now) }
 {
     match marks::mean(own, held) {
-        MeanOf::Mean(mean) => Status::Mean(mean),
-        MeanOf::Nothing => Status::NoMean,
-        MeanOf::CutShort => Status::NoMean,
+        Ok(Some(mean)) => Status::Mean(mean),
+        Ok(None) | Err(_) => Status::NoMean,
     }
 }
 

@@ -9,7 +9,7 @@ ghost use Rattle.reasons.specs.Checks.{first_wide};
 ghost use Rattle.reasons.specs.Reasons as Reasons;
 
 use table::Verdict;
-use words::{Cell, Key};
+use words::Cell;
 
 // The rule that is broken. A number is a row of the models, or a word of the bad row, counted from 0.
 #[derive(Clone, Copy)]
@@ -61,13 +61,7 @@ fn row_with(models: &[u64], rows: usize, id: u64, at: usize, value: u64) -> Opti
 {
     let named = Cell { at: 0, value: id };
     let held = Cell { at, value };
-    let key = Key {
-        first: named,
-        second: held,
-        third: held,
-        fourth: held,
-    };
-    words::next_row(models, 10, 0, rows, key)
+    words::next_row(models, 10, 0, rows, &[named, held])
 }
 
 // What a row breaks by its parent, which is a Coupled before it, or by its depth.

@@ -8,7 +8,7 @@ ghost use Rattle.words.specs.Search.{first_from, next_row};
 ghost use Rattle.selection.specs.Selecting.{connects, is_input, is_output, is_internal, is_component, is_free, has_id, comes_from, lead_of, lead_at, target_in, seen_of, Finds, connectors_in, couplings_in, rows_in};
 ghost use Rattle.selection.specs.SelectingLaws.{coupling_key, child_at};
 
-use words::{Cell, Key};
+use words::Cell;
 
 // A component's id, or a model's, with a port of it.
 #[derive(Clone, Copy)]
@@ -55,16 +55,16 @@ fn next_coupling(
 ) -> Option<usize>
     ensures { result ≡ next_row (coupling_key kind owner at source port) 6 from (couplings_in couplings.now) couplings.now }
 {
-    let key = Key {
-        first: Cell {
+    let key = [
+        Cell {
             at: 0,
             value: owner,
         },
-        second: Cell { at: 1, value: kind },
-        third: Cell { at, value: source },
-        fourth: Cell { at: 3, value: port },
-    };
-    words::next_row(couplings, 6, from, couplings.len() / 6, key)
+        Cell { at: 1, value: kind },
+        Cell { at, value: source },
+        Cell { at: 3, value: port },
+    ];
+    words::next_row(couplings, 6, from, couplings.len() / 6, &key)
 }
 
 // The row's parent is the one asked for: where `given` is 1, `parent`; where it is 0, none, and the parent's cell is not looked at.
@@ -127,14 +127,26 @@ pub fn next_input(couplings: &[u64], from: usize, owner: u64, port: u64) -> Opti
 }
 
 // The next external output coupling of this owner, from this component's port, or Nothing.
-pub fn next_output(couplings: &[u64], from: usize, owner: u64, source: u64, port: u64) -> Option<usize>
+pub fn next_output(
+    couplings: &[u64],
+    from: usize,
+    owner: u64,
+    source: u64,
+    port: u64,
+) -> Option<usize>
     ensures { result ≡ first_from (is_output couplings.now owner source port) from (couplings_in couplings.now - from) }
 {
     next_coupling(couplings, from, 2, owner, 2, source, port)
 }
 
 // The next internal coupling of this owner, from this component's port, or Nothing.
-pub fn next_internal(couplings: &[u64], from: usize, owner: u64, source: u64, port: u64) -> Option<usize>
+pub fn next_internal(
+    couplings: &[u64],
+    from: usize,
+    owner: u64,
+    source: u64,
+    port: u64,
+) -> Option<usize>
     ensures { result ≡ first_from (is_internal couplings.now owner source port) from (couplings_in couplings.now - from) }
 {
     next_coupling(couplings, from, 3, owner, 2, source, port)
@@ -171,12 +183,11 @@ pub fn next_parentless(models: &[u64], from: usize) -> Option<usize>
 pub fn next_with_id(models: &[u64], from: usize, id: u64) -> Option<usize>
     ensures { result ≡ first_from (has_id models.now id) from (rows_in models.now - from) }
 {
-    let cell = Cell { at: 0, value: id };
-    let key = Key {
-        first: cell,
-        second: cell,
-        third: cell,
-        fourth: cell,
-    };
-    words::next_row(models, 10, from, models.len() / 10, key)
+    words::next_row(
+        models,
+        10,
+        from,
+        models.len() / 10,
+        &[Cell { at: 0, value: id }],
+    )
 }

@@ -10,7 +10,7 @@ ghost use Rattle.table.specs.Judging as Judging;
 ghost use Rattle.table.specs.Rising.{AtMost};
 
 use rules::{Batcher, Metric, Processor, Stopwatch};
-use words::{Cell, Key};
+use words::Cell;
 
 // What intake says of a table, with the first bad row, counted from 0 in its own slice.
 #[derive(Clone, Copy)]
@@ -306,13 +306,7 @@ fn has_row(models: &[u64], rows: usize, id: u64, at: usize, value: u64) -> bool
 {
     let named = Cell { at: 0, value: id };
     let held = Cell { at, value };
-    let key = Key {
-        first: named,
-        second: held,
-        third: held,
-        fourth: held,
-    };
-    match words::next_row(models, 10, 0, rows, key) {
+    match words::next_row(models, 10, 0, rows, &[named, held]) {
         Some(_) => true,
         None => false,
     }
