@@ -155,6 +155,7 @@ fn read_kind(kind: BlockKind, file: &[u8], start: u64, rows: &mut [u64]) -> Resu
 }
 
 // How many bytes the blocks of so many words of rows have: 0 where there is no whole row, and where there are more than 2^32.
+#[tactic(auto, unfolding(trace_blocks::specs::Blocks::is_kind))]
 pub fn trace_bytes(numbers: usize) -> usize
     ensures { result ≡ trace_bytes six numbers }
 {
@@ -162,6 +163,7 @@ pub fn trace_bytes(numbers: usize) -> usize
 }
 
 // Rows of six words as blocks numbered from `start` on: how many bytes, or 13 and nothing is written.
+#[tactic(auto, unfolding(trace_blocks::specs::Blocks::is_kind))]
 pub fn write_trace(rows: &[u64], start: u64, file: &mut [u8]) -> Result<usize, Refusal>
     ensures answers { result ≡ written_is (write_trace six rows.now start (length file.old)) }
     ensures leaves { file.new ≡ file_after file.old (write_trace six rows.now start (length file.old)) }
@@ -170,6 +172,7 @@ pub fn write_trace(rows: &[u64], start: u64, file: &mut [u8]) -> Result<usize, R
 }
 
 // The rows of a whole file from block `start` on: how many, or 14 with the bad block's number, or 13; refused, nothing is written.
+#[tactic(auto, unfolding(trace_blocks::specs::Blocks::is_kind))]
 pub fn read_trace(file: &[u8], start: u64, rows: &mut [u64]) -> Result<usize, ReadError>
     ensures answers { result ≡ read_is six (read_trace six file.now start (length rows.old / 6)) }
     ensures leaves { rows.new ≡ rows_after rows.old (read_trace six file.now start (length rows.old / 6)) }

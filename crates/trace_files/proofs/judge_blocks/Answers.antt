@@ -4,13 +4,8 @@ use native.Mathlib.Omega.{arith}
 use borrow.Author.Rules.{rules}
 use lib.ListN.{length}
 use Rattle.trace_files.specs.PieceLaws.{piece_inside}
-use Rattle.trace_files.proofs.ReadLoop.{judging-start, judging-cut, judging-told, judging-full, judging-more, judging-end}
+use Rattle.trace_files.proofs.ReadLoop.{judging-cut, judging-told, judging-full, judging-more, judging-end}
 use Rattle.trace_files.proofs.judge_blocks.Goals as goal
-
-pub loop-i-init : goal.loop-i-init
-loop-i-init c =
-    let a = c.args in
-    judging-start a.kind a.file.now a.start a.room
 
 pub overflow_mul-at : goal.overflow_mul-at
 overflow_mul-at c =
@@ -32,10 +27,6 @@ returns-in_default c =
     let a = c.args in
     let none : c.judge_block.result ≡ None = search rules in
     judging-told a.kind a.file.now a.start a.room c.loop-i.i c.loop-i.rows c.loop-i.invariant c.requires (omega (arith, c.pieces_of-blocks.ensures, c.loop-i-test.true)) c.if-left-lt-BLOCK_BYTES.false c.judge_block.result c.judge_block.ensures none
-
-pub overflow_sub-room : goal.overflow_sub-room
-overflow_sub-room c =
-    c.loop-i.invariant.fits
 
 pub returns-then-room-rows : goal.returns-then-room-rows
 returns-then-room-rows c =

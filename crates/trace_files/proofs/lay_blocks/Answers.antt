@@ -62,11 +62,6 @@ offset_bounds-rows-from c =
     let m = laying-from a.kind a.file.now a.start c.loop-i.i c.loop-i.count a.rows.now c.loop-i.rows c.loop-i.invariant in
     record { fits = omega arith }
 
-pub slice_bounds-read_numbers-count : goal.slice_bounds-read_numbers-count
-slice_bounds-read_numbers-count c =
-    let a = c.args in
-    omega arith
-
 pub slice_bounds-read_numbers-start : goal.slice_bounds-read_numbers-start
 slice_bounds-read_numbers-start c =
     let a = c.args in
@@ -85,11 +80,6 @@ pub loop-i-preserved : goal.loop-i-preserved
 loop-i-preserved c =
     let a = c.args in
     laying-more a.kind a.file.now a.start c.loop-i.i c.loop-i.count a.rows.now c.loop-i.rows c.loop-i.invariant (omega (arith, c.pieces_of-blocks.ensures, c.loop-i-test.true)) c.requires.good c.count_in.result c.count_in.ensures c.requires.kind c.read_numbers.new.rows c.read_numbers.ensures
-
-pub shape_of-rows : goal.shape_of-rows
-shape_of-rows c =
-    let a = c.args in
-    laying-same a.kind a.file.now a.start c.loop-i.i c.loop-i.count a.rows.now c.loop-i.rows c.loop-i.invariant
 
 pub returns : goal.returns
 returns c =
