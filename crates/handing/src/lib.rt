@@ -13,6 +13,8 @@ ghost use Rattle.handing.specs.Handing.{park_from, outs_from, Fills, Beside};
 
 use rules::Refusal;
 
+// kept: `state` and `mem` stay two slices, since only `mem` is written, and `lookup` and `memory` would take a struct of both apart at each call
+
 // Parked for each component to which an internal coupling leads from this port of `source`, in order.
 fn park_all(
     state: &[u64],

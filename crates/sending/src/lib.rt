@@ -15,6 +15,8 @@ ghost use Rattle.views.specs.Messages.{messages_in, Sent};
 use rules::Refusal;
 use selection::Target;
 
+// kept: `state` and `mem` stay two slices, since only `mem` is written, and `lookup` and `memory` would take a struct of both apart at each call
+
 // A message's six words. The time goes by its bits.
 fn write_message(
     mem: &mut [u64],
@@ -28,12 +30,8 @@ fn write_message(
     requires { at + 6 ≤ length mem.old }
     ensures { mem.new ≡ replaced at 6 (source ∷ port ∷ target.id ∷ target.port ∷ time ∷ content ∷ []) mem.old }
 {
-    mem[at] = source;
-    mem[at + 1] = port;
-    mem[at + 2] = target.id;
-    mem[at + 3] = target.port;
-    mem[at + 4] = time;
-    mem[at + 5] = content;
+    let words = [source, port, target.id, target.port, time, content];
+    mem[at..at + 6].copy_from_slice(&words);
 }
 
 // One message along every connector that matches; the 257th active is 8. Each connector is looked at once at most.

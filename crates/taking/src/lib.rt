@@ -15,6 +15,8 @@ ghost use Rattle.taking.specs.Taking.{takes_one, takes_all, is_for, is_addressed
 
 use rules::Refusal;
 
+// kept: `state` and `mem` stay two slices, since only `mem` is written, and `lookup` and `memory` would take a struct of both apart at each call
+
 // The first message from the k-th on that is for this id; past the last if there is none.
 fn next_for(mem: &[u64], active: usize, k: usize, count: usize, id: u64) -> usize
     requires { (active + 1536 ≤ length mem.now) × (count ≤ 256) }

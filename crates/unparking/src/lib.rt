@@ -15,6 +15,8 @@ ghost use Rattle.unparking.specs.Unparking.{is_for, handed, takes};
 
 use rules::Refusal;
 
+// kept: `state` and `mem` stay two slices, since only `mem` is written, and `lookup` and `memory` would take a struct of both apart at each call
+
 // Each component in order takes the messages parked for it. The list itself is left as it is.
 pub fn unpark(
     state: &[u64],
