@@ -15,8 +15,8 @@ use Rattle.rules.proofs.Worlds.{MessageFits}
 use Rattle.memory.specs.Words.{word_at, place_in}
 use Rattle.views.specs.World.{end_of, states_in, world_in, Ready}
 use Rattle.views.specs.Messages.{messages_in}
-use Rattle.stepping.specs.declared.Stepped.{Stepped}
-use Rattle.stepping.specs.declared.Stepped.TheVariants as stepped
+use Rattle.stepping.specs.declared.Stopped.{Stopped}
+use Rattle.stepping.specs.declared.Stopped.TheVariants as stopped
 
 abbrev pub clock_in : List ℕ → Float
 clock_in mem = of_bits binary64 (word_at mem 1)
@@ -54,10 +54,10 @@ pub record Kept-all (refusal : Refusal) (services : List Float) (t : Table) (mem
   pub is : step_on t services (sim_in t mem) ≡ refused refusal
   pub same : after ≡ mem
 
-abbrev pub Steps : Stepped → List Float → Table → List ℕ → List ℕ → Type 0
-Steps stepped.Done services t mem after = Went services t mem after
-Steps (stepped.Untouched r) services t mem after = Kept-all r services t mem after
-Steps (stepped.Halfway r) services t mem after = step_on t services (sim_in t mem) ≡ refused r
+abbrev pub Steps : Result ⊤ Stopped → List Float → Table → List ℕ → List ℕ → Type 0
+Steps (Ok tt) services t mem after = Went services t mem after
+Steps (Err (stopped.Untouched r)) services t mem after = Kept-all r services t mem after
+Steps (Err (stopped.Halfway r)) services t mem after = step_on t services (sim_in t mem) ≡ refused r
 
 -- the turns in place, and what they leave: the simulation after the step stands in the words
 pub record Closes (t : Table) (services : List Float) (clock : Float) (mem after : List ℕ) : Type 0 where

@@ -11,17 +11,26 @@ ghost use Rattle.lookup.specs.Inside.{Inside, table_in};
 ghost use Rattle.views.specs.World.{end_of, Frame};
 ghost use Rattle.views.specs.Messages.{messages_in, Joined};
 ghost use Rattle.model_events.specs.Events.{Scene, Event};
+ghost use Rattle.stepping.specs.declared.Stopped.TheVariants.{Halfway};
 ghost use Rattle.stepping.specs.Simulating.{clock_in, turns_of, Sound, Steps, Closed};
 ghost use Rattle.stepping.specs.Whole.{stamped};
 
 use rules::Refusal;
 
-// What a step in place answers. Refused halfway, the words hold no simulation that is to be kept.
+// Why a step was not done. Refused halfway, the words hold no simulation that is to be kept.
 #[derive(Clone, Copy)]
-pub enum Stepped {
-    Done,
+pub enum Stopped {
     Untouched(Refusal),
     Halfway(Refusal),
+}
+
+// What `?` hands on was refused once something may have been written.
+impl From<Refusal> for Stopped {
+    ghost from_gives = { λ refusal stopped. stopped ≡ Halfway refusal };
+
+    fn from(refusal: Refusal) -> Stopped {
+        Stopped::Halfway(refusal)
+    }
 }
 
 // The clock, from its bits.
@@ -29,10 +38,7 @@ pub fn clock_at(mem: &[u64]) -> f64
     requires { (2 ≤ length mem.now) × T (is_time (clock_in mem.now)) }
     ensures { result ≡ clock_in mem.now }
 {
-    match times::time_of_bits(mem[1]) {
-        Some(clock) => clock,
-        None => 0.0,
-    }
+    times::time_of_bits(mem[1]).unwrap_or(0.0)
 }
 
 // How many messages are active, and the clock's bits.
@@ -62,53 +68,49 @@ fn root_turn(
         return Ok(count);
     }
     let at = active + 1536;
-    match internal_events::internal(state, services, mem, 5, clock, row, at) {
-        Err(refusal) => Err(refusal),
-        Ok(messages) => {
-            sending::send_all(state, mem, row, clock, at, messages, active, count)
-        }
-    }
+    let messages = internal_events::internal(state, services, mem, 5, clock, row, at)?;
+    sending::send_all(state, mem, row, clock, at, messages, active, count)
 }
 
 // Each model without parent in row order. A row whose timer's word is not 0 is not due.
-fn root_turns(state: &[u64], services: &[f64], mem: &mut [u64], clock: f64, active: usize) -> Result<usize, Refusal>
+fn root_turns(
+    state: &[u64],
+    services: &[f64],
+    mem: &mut [u64],
+    clock: f64,
+    active: usize,
+) -> Result<usize, Refusal>
     requires { Scene state.now mem.old clock × (end_of (table_in state.now) ≤ active) × (active + 2816 ≤ length mem.old) }
     ensures joins { Joined result (messages_in active) 256 0 (turns_of (table_in state.now) services.now clock) (table_in state.now) mem.old mem.new }
     ensures frame { Frame (table_in state.now) active (length mem.old) mem.old mem.new }
 {
-    let end = lookup::row_count(state);
     let mut count = 0;
     let mut from = 0;
-    while from < end {
-        let ripe = row_timers::next_at_zero(state, mem, from);
-        match lookup::next_parentless(state, ripe) {
-            None => return Ok(count),
-            Some(row) => {
-                match root_turn(state, services, mem, clock, row, active, count) {
-                    Ok(messages) => count = messages,
-                    Err(refusal) => return Err(refusal),
-                }
-                from = row + 1;
-            }
-        }
+    while let Some(row) = lookup::next_parentless(
+        state,
+        row_timers::next_at_zero(state, mem, from),
+    ) {
+        count = root_turn(state, services, mem, clock, row, active, count)?;
+        from = row + 1;
     }
     Ok(count)
 }
 
 // The turns, at the new clock; then the messages sent replace the active ones.
-fn close(state: &[u64], services: &[f64], mem: &mut [u64], clock: f64, active: usize) -> Result<(), Refusal>
+fn close(
+    state: &[u64],
+    services: &[f64],
+    mem: &mut [u64],
+    clock: f64,
+    active: usize,
+) -> Result<(), Refusal>
     requires { Scene state.now mem.old clock × (active ≡ end_of (table_in state.now)) × (active + 2816 ≤ length mem.old) }
     ensures closes { Closed result (table_in state.now) services.now clock mem.old mem.new }
     ensures long { length mem.new ≡ length mem.old }
 {
-    match root_turns(state, services, mem, clock, active) {
-        Err(refusal) => Err(refusal),
-        Ok(count) => {
-            let bits = times::bits_of(clock);
-            stamp(mem, count as u64, bits);
-            Ok(())
-        }
-    }
+    let count = root_turns(state, services, mem, clock, active)?;
+    stamp(mem, count as u64, times::bits_of(clock));
+    Ok(())
 }
 
 // A step without active messages: the least timer is the advance.
@@ -118,25 +120,21 @@ fn advance_step(
     mem: &mut [u64],
     clock: f64,
     active: usize,
-) -> Stepped
+) -> Result<(), Stopped>
     requires { Inside state.now × Sound (table_in state.now) mem.old × (clock ≡ clock_in mem.old) × (active ≡ end_of (table_in state.now)) × (word_at mem.old 0 ≡ 0) }
     ensures steps { Steps result services.now (table_in state.now) mem.old mem.new }
     ensures long { length mem.new ≡ length mem.old }
 {
     let advance = row_timers::least_timer(state, mem);
     if advance == times::never() {
-        return Stepped::Untouched(Refusal::Idle);
+        return Err(Stopped::Untouched(Refusal::Idle));
     }
-    match times::advance_clock(clock, advance) {
-        None => Stepped::Untouched(Refusal::ClockOverflow),
-        Some(next) => {
-            row_timers::pass(state, mem, advance);
-            match close(state, services, mem, next, active) {
-                Ok(()) => Stepped::Done,
-                Err(refusal) => Stepped::Halfway(refusal),
-            }
-        }
-    }
+    let Some(next) = times::advance_clock(clock, advance) else {
+        return Err(Stopped::Untouched(Refusal::ClockOverflow));
+    };
+    row_timers::pass(state, mem, advance);
+    close(state, services, mem, next, active)?;
+    Ok(())
 }
 
 // A step with active messages: they are taken, and the advance is 0.
@@ -146,23 +144,19 @@ fn message_step(
     mem: &mut [u64],
     clock: f64,
     active: usize,
-) -> Stepped
+) -> Result<(), Stopped>
     requires { Inside state.now × Sound (table_in state.now) mem.old × (clock ≡ clock_in mem.old) × (active ≡ end_of (table_in state.now)) × (0 < word_at mem.old 0) }
     ensures steps { Steps result services.now (table_in state.now) mem.old mem.new }
     ensures long { length mem.new ≡ length mem.old }
 {
     let count = mem[0] as usize;
-    match taking::take_all(state, services, mem, clock, active, count) {
-        Err(refusal) => Stepped::Halfway(refusal),
-        Ok(()) => match close(state, services, mem, clock, active) {
-            Ok(()) => Stepped::Done,
-            Err(refusal) => Stepped::Halfway(refusal),
-        },
-    }
+    taking::take_all(state, services, mem, clock, active, count)?;
+    close(state, services, mem, clock, active)?;
+    Ok(())
 }
 
 // The rules' step, done in the words, or refused as there: Untouched where nothing was written yet. The active messages stand from `active` on.
-pub fn step(state: &[u64], services: &[f64], mem: &mut [u64], active: usize) -> Stepped
+pub fn step(state: &[u64], services: &[f64], mem: &mut [u64], active: usize) -> Result<(), Stopped>
     requires { Inside state.now × Sound (table_in state.now) mem.old × (active ≡ end_of (table_in state.now)) }
     ensures steps { Steps result services.now (table_in state.now) mem.old mem.new }
     ensures long { length mem.new ≡ length mem.old }

@@ -1,6 +1,6 @@
 -- `stepping::advance_step` meets its contract. Assumes nothing.
-use Rattle.std.specs.Prelude.{Result, Some, ⊤}
-use Rattle.rules.specs.declared.Refusal.{Refusal}
+use Rattle.std.proofs.lemmas.Result.{err_from_is_err_and}
+use Rattle.std.specs.Prelude.{Some}
 use Prim.Native.Nat.{ℕ, ◌^◌}
 use mathlib.Core.Path.{◌≡◌, refl, sym, ap, subst, ◌∙◌}
 use mathlib.Core.Bool.{Bool, true, false}
@@ -21,7 +21,7 @@ use Rattle.lookup.specs.Inside.{table_in}
 use Rattle.lookup.specs.InsideLaws.{fine-in}
 use Rattle.views.specs.World.{states_in, world_in}
 use Rattle.row_timers.specs.Passing.{Passed}
-use Rattle.stepping.specs.Simulating.{clock_in, sim_in, turns_of, closing, Closed}
+use Rattle.stepping.specs.Simulating.{clock_in, sim_in, turns_of, closing}
 use Rattle.stepping.specs.Whole.{idle-is, overflow-is, passes_on, ends-done, ends-halfway, never-eq, some-time}
 use Rattle.stepping.proofs.advance_step.Goals as goal
 
@@ -60,20 +60,19 @@ close-requires c =
     let long = c.pass.auto.mem in
     (record { inside = c.requires.0; ready = c.pass.ensures.passes.ready; time = l.0 }, c.requires.3, (let r = s.room in let e = c.requires.3 in omega (arith, long)))
 
--- src/lib.rt:118:1
-pub returns-in-None : goal.returns-in-None
-returns-in-None c =
+pub returns-in_default : goal.returns-in_default
+returns-in_default c =
     let timer-of : T (is_timer (least_timer (table_in c.args.state.now) (states_in (table_in c.args.state.now) c.args.mem.now))) = least-is-timer (table_in c.args.state.now) (fine-in c.args.state.now c.requires.0) (states_in (table_in c.args.state.now) c.args.mem.now) c.requires.1.ready.good.0 in
     let asked : (a n : Float) → a ≡ least_timer (table_in c.args.state.now) (states_in (table_in c.args.state.now) c.args.mem.now) → n ≡ never → (b : Bool) → eq a n ≡ b → is_never (least_timer (table_in c.args.state.now) (states_in (table_in c.args.state.now) c.args.mem.now)) ≡ b = λ a n e f b h. sym (never-eq _ (timer-of)) ∙ (rw (← e, ← f) h) in
     let a = c.args in
     let t = table_in a.state.now in
     let some = asked c.least_timer-advance.result c.never.result c.least_timer-advance.ensures c.never.ensures false c.if-advance-never.false in
-    let over = overflow-says a.clock c.least_timer-advance.result (sym c.advance_clock.ensures ∙ c.in-None.is) in
+    let over = overflow-says a.clock c.least_timer-advance.result (sym c.advance_clock.ensures ∙ c.in_default.is) in
     record { steps = record { is = overflow-is t a.services.now a.mem.now c.requires.4 some (rw (← c.requires.2, ← c.least_timer-advance.ensures) over); same = refl }; long = refl }
 
--- src/lib.rt:118:1
-pub returns-in-Ok : goal.returns-in-Ok
-returns-in-Ok c =
+pub returns-in_err-close : goal.returns-in_err-close
+returns-in_err-close c =
+    let refused = err_from_is_err_and c.from_residual.result c.from_residual.ensures.1 in
     let timer-of : T (is_timer (least_timer (table_in c.args.state.now) (states_in (table_in c.args.state.now) c.args.mem.now))) = least-is-timer (table_in c.args.state.now) (fine-in c.args.state.now c.requires.0) (states_in (table_in c.args.state.now) c.args.mem.now) c.requires.1.ready.good.0 in
     let asked : (a n : Float) → a ≡ least_timer (table_in c.args.state.now) (states_in (table_in c.args.state.now) c.args.mem.now) → n ≡ never → (b : Bool) → eq a n ≡ b → is_never (least_timer (table_in c.args.state.now) (states_in (table_in c.args.state.now) c.args.mem.now)) ≡ b = λ a n e f b h. sym (never-eq _ (timer-of)) ∙ (rw (← e, ← f) h) in
     let later-is : (a next : Float) → a ≡ least_timer (table_in c.args.state.now) (states_in (table_in c.args.state.now) c.args.mem.now) → later_of c.args.clock a ≡ Some next → T (is_time next) × (next ≡ add binary64 (clock_in c.args.mem.now) (least_timer (table_in c.args.state.now) (states_in (table_in c.args.state.now) c.args.mem.now))) = λ a next e h. let s = clock-says c.args.clock a next h in (s.0, s.1 ∙ (rw (c.requires.2, e))) in
@@ -81,17 +80,13 @@ returns-in-Ok c =
     let a = c.args in
     let t = table_in a.state.now in
     let mid = c.pass.new.mem in
-    let after = c.close.new.mem in
     let short : T (is_word (length a.services.now)) = lt→ltb (length a.services.now) (2 ^ 64) c.well_formed.1.0.0 in
     let some = asked c.least_timer-advance.result c.never.result c.least_timer-advance.ensures c.never.ensures false c.if-advance-never.false in
     let o = opens c.least_timer-advance.result c.in-Some.next mid c.least_timer-advance.ensures (sym c.advance_clock.ensures ∙ c.in-Some.is) some c.pass.ensures.passes in
-    let shut = subst (λ (r : Result ⊤ Refusal). Closed r t a.services.now c.in-Some.next mid after) c.in-Ok.is c.close.ensures.closes in
-    let long : length after ≡ length a.mem.now = c.close.ensures.long ∙ c.pass.auto.mem in
-    record { steps = ends-done t (fine-in a.state.now c.requires.0) a.services.now short a.mem.now c.requires.1 c.in-Some.next mid _ o after long shut; long = long }
+    record { steps = rw (refused.1, refused.2) (ends-halfway t (fine-in a.state.now c.requires.0) a.services.now short a.mem.now c.requires.1 c.in-Some.next mid _ o _ c.in_err-close.ensures.closes); long = c.close.ensures.long ∙ c.pass.auto.mem }
 
--- src/lib.rt:118:1
-pub returns-in-Err : goal.returns-in-Err
-returns-in-Err c =
+pub returns : goal.returns
+returns c =
     let timer-of : T (is_timer (least_timer (table_in c.args.state.now) (states_in (table_in c.args.state.now) c.args.mem.now))) = least-is-timer (table_in c.args.state.now) (fine-in c.args.state.now c.requires.0) (states_in (table_in c.args.state.now) c.args.mem.now) c.requires.1.ready.good.0 in
     let asked : (a n : Float) → a ≡ least_timer (table_in c.args.state.now) (states_in (table_in c.args.state.now) c.args.mem.now) → n ≡ never → (b : Bool) → eq a n ≡ b → is_never (least_timer (table_in c.args.state.now) (states_in (table_in c.args.state.now) c.args.mem.now)) ≡ b = λ a n e f b h. sym (never-eq _ (timer-of)) ∙ (rw (← e, ← f) h) in
     let later-is : (a next : Float) → a ≡ least_timer (table_in c.args.state.now) (states_in (table_in c.args.state.now) c.args.mem.now) → later_of c.args.clock a ≡ Some next → T (is_time next) × (next ≡ add binary64 (clock_in c.args.mem.now) (least_timer (table_in c.args.state.now) (states_in (table_in c.args.state.now) c.args.mem.now))) = λ a next e h. let s = clock-says c.args.clock a next h in (s.0, s.1 ∙ (rw (c.requires.2, e))) in
@@ -103,5 +98,5 @@ returns-in-Err c =
     let short : T (is_word (length a.services.now)) = lt→ltb (length a.services.now) (2 ^ 64) c.well_formed.1.0.0 in
     let some = asked c.least_timer-advance.result c.never.result c.least_timer-advance.ensures c.never.ensures false c.if-advance-never.false in
     let o = opens c.least_timer-advance.result c.in-Some.next mid c.least_timer-advance.ensures (sym c.advance_clock.ensures ∙ c.in-Some.is) some c.pass.ensures.passes in
-    let shut = subst (λ (r : Result ⊤ Refusal). Closed r t a.services.now c.in-Some.next mid after) c.in-Err.is c.close.ensures.closes in
-    record { steps = ends-halfway t (fine-in a.state.now c.requires.0) a.services.now short a.mem.now c.requires.1 c.in-Some.next mid _ o c.in-Err.refusal shut; long = c.close.ensures.long ∙ c.pass.auto.mem }
+    let long : length after ≡ length a.mem.now = c.close.ensures.long ∙ c.pass.auto.mem in
+    record { steps = ends-done t (fine-in a.state.now c.requires.0) a.services.now short a.mem.now c.requires.1 c.in-Some.next mid _ o after long c.in_ok-close.ensures.closes; long = long }
