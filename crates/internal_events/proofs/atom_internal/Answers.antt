@@ -22,7 +22,7 @@ use Rattle.views.specs.World.{Gives, Frame}
 use Rattle.views.proofs.Lifts.{gives-kind, row-kind}
 use Rattle.views.proofs.WorldLayout.{begin-end}
 use Rattle.views.proofs.Frames.{frame-wider}
-use Rattle.model_events.specs.OfKind.{is-processor, is-batcher, is-stopwatch, no-coupled, no-broken, frame-kind}
+use Rattle.model_events.specs.OfKind.{is-processor, is-batcher, is-stopwatch, no-coupled, frame-kind}
 use borrow.Author.Rules.{rules}
 use Rattle.internal_events.proofs.atom_internal.Goals as goal
 
