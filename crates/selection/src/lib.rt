@@ -183,11 +183,6 @@ pub fn next_parentless(models: &[u64], from: usize) -> Option<usize>
 pub fn next_with_id(models: &[u64], from: usize, id: u64) -> Option<usize>
     ensures { result ≡ first_from (has_id models.now id) from (rows_in models.now - from) }
 {
-    words::next_row(
-        models,
-        10,
-        from,
-        models.len() / 10,
-        &[Cell { at: 0, value: id }],
-    )
+    let key = [Cell { at: 0, value: id }];
+    words::next_row(models, 10, from, models.len() / 10, &key)
 }
