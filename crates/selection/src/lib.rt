@@ -168,10 +168,10 @@ pub fn next_internal(
 pub fn coupling_target(couplings: &[u64], row: usize) -> Target
     ensures { result ≡ target_in 6 4 couplings.now row }
 {
-    let cells = table::row_of(couplings, COUPLING_WIDTH, row);
+    let start = row.saturating_mul(COUPLING_WIDTH);
     Target {
-        id: words::word_at(cells, 4),
-        port: words::word_at(cells, 5),
+        id: words::word_at(couplings, start.saturating_add(4)),
+        port: words::word_at(couplings, start.saturating_add(5)),
     }
 }
 
