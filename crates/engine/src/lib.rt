@@ -15,9 +15,10 @@ ghost use Rattle.stepping.specs.Simulating.{sim_in, Sound};
 ghost use Rattle.rerunning.specs.Running.{Stored, sim_of};
 ghost use Rattle.engine.specs.Telling.{Told};
 
-use rerunning::Next;
 use rules::Refusal;
 
+// How a run ended.
+// kept: its four ends are those of the rules' `Calls.End`, one for one, and none of them is an error of the report
 #[derive(Clone, Copy)]
 pub enum End {
     Done,
@@ -69,30 +70,28 @@ pub fn run(
 {
     let active = begin(state, mem);
     let room = rows.len() / 6;
-    let mut steps = 0;
     let mut written = 0;
-    while steps < bound {
+    for steps in 0..bound {
         match rerunning::next_step(state, services, mem, active, until, steps, room - written) {
-            Next::On(count) => {
+            Ok(Some(count)) => {
                 collect(rows, mem, written, active, count);
                 written += count;
-                steps += 1;
             }
-            Next::Reached => return Report {
+            Ok(None) => return Report {
                 steps: steps + 1,
-                written: written,
+                written,
                 end: End::Reached,
             },
-            Next::Refused(refusal) => return Report {
-                steps: steps,
-                written: written,
+            Err(refusal) => return Report {
+                steps,
+                written,
                 end: End::Refused(refusal),
             },
         }
     }
     Report {
-        steps: steps,
-        written: written,
+        steps: bound,
+        written,
         end: End::Spent,
     }
 }

@@ -1,5 +1,5 @@
 -- A run in place: the simulation that a lent state holds, so many steps from it, and one step more. Definitions only. Assumes nothing.
-use Rattle.std.specs.Prelude.{ℕ, zero, suc, ◌+◌, ◌*◌, ◌≤◌, ◌≡◌, List, [], length, drop, T, Float}
+use Rattle.std.specs.Prelude.{ℕ, zero, suc, ◌+◌, ◌*◌, ◌≤◌, ◌≡◌, List, [], length, drop, T, Float, Err, None, Ok, Option, Result, Some}
 use Rattle.times.specs.Time.{is_time}
 use Rattle.rules.specs.declared.Refusal.{Refusal}
 use Rattle.rules.specs.Base.{Outcome, done, ◌>>=◌}
@@ -15,8 +15,6 @@ use Rattle.memory.specs.Words.{word_at}
 use Rattle.lookup.specs.Inside.{Inside, tail_at, table_in}
 use Rattle.views.specs.World.{end_of, Ready}
 use Rattle.stepping.specs.Simulating.{clock_in, active_in, sim_in, Sound}
-use Rattle.rerunning.specs.declared.Next.{Next}
-use Rattle.rerunning.specs.declared.Next.TheVariants as next
 
 -- ---- the changing part of a lent state, and what 20 asks of it
 abbrev pub tail_in : List ℕ → List ℕ
@@ -66,7 +64,8 @@ module _ (services : List Float) (until : Float) (room : ℕ) (t : Table) (mem a
     pub same : sim_in t after ≡ sim_in t mem
     pub is : (rest : Simulation → Ran) → looks rest ≡ ended (Calls.Refused r) (sim_in t mem)
 
-abbrev pub Nexts : Next → List Float → Float → ℕ → Table → List ℕ → List ℕ → Type 0
-Nexts (next.On n) services until room t mem after = Goes services until room t mem after n
-Nexts next.Reached services until room t mem after = Arrives services until room t mem after
-Nexts (next.Refused r) services until room t mem after = Refuses services until room t mem after r
+-- so many messages are to be collected, `until` is reached, or the step is refused
+abbrev pub Nexts : Result (Option ℕ) Refusal → List Float → Float → ℕ → Table → List ℕ → List ℕ → Type 0
+Nexts (Ok (Some n)) services until room t mem after = Goes services until room t mem after n
+Nexts (Ok None) services until room t mem after = Arrives services until room t mem after
+Nexts (Err r) services until room t mem after = Refuses services until room t mem after r

@@ -1,7 +1,8 @@
 -- A run in place: what the look after a step answers, what a lent state's words are once they are copied, and that the steps completed before are completed again. Assumes nothing.
-use Rattle.std.specs.Prelude.{ℕ, zero, suc, ◌+◌, ◌*◌, ◌-◌, ◌≤◌, ◌<◌, ◌≡◌, refl, true, false, List, [], ◌++◌, length, take, drop, T, Float, if◌then◌else◌}
+use Rattle.std.specs.Prelude.{ℕ, zero, suc, ◌+◌, ◌*◌, ◌-◌, ◌≤◌, ◌<◌, ◌≡◌, refl, true, false, List, [], ◌++◌, length, take, drop, T, Float, if◌then◌else◌, Err, None, Ok, Option, Result, Some, ⊤}
 use Rattle.std.proofs.Common.{sym, ap, subst, ◌∙◌, add-zero, zero-add, add-one, arith, le-leb, length-append, length-drop, length-take-le, get_or-take, get_or-drop}
-use Rattle.std.proofs.lemmas.Bool.{lt-leb}
+use Rattle.std.specs.Result.{is_err}
+use Rattle.std.proofs.lemmas.Bool.{lt-leb, false≢true}
 use Rattle.std.proofs.Math.ListN.{get_or-append}
 use Rattle.std.specs.Float.Ieee.{lt, of_bits}
 use Rattle.std.specs.Float.{binary64}
@@ -25,9 +26,9 @@ use Rattle.copying.specs.Copied.{copied}
 use Rattle.copying.specs.CopiedLaws.{to_end}
 use Rattle.copying.specs.Sparing.{Lends}
 use Rattle.copying.specs.SparingLaws.{zero-spare}
-use Rattle.stepping.specs.Simulating.{clock_in, active_in, sim_in, Sound, Went}
-use Rattle.rerunning.specs.declared.Next.{Next}
-use Rattle.rerunning.specs.declared.Next.TheVariants as next
+use Rattle.stepping.specs.declared.Stopped.{Stopped}
+use Rattle.stepping.specs.declared.Stopped.TheVariants as stopped
+use Rattle.stepping.specs.Simulating.{clock_in, active_in, sim_in, Sound, Went, Steps}
 use Rattle.rerunning.specs.Running.{tail_in, Stored, sim_of, reached, Completed, Goes, Arrives, Refuses, Nexts}
 use Rattle.views.proofs.Outside.{within-world, within-ready}
 
@@ -76,6 +77,16 @@ module _ (t : Table) (services : List Float) (sim : Simulation) where
       let more : steps ≡ (steps - suc k) + suc k = omega arith in
       let one = completed-from (steps - suc k) (suc k) (subst (λ (n : ℕ). Completed t services n sim) more whole) in
       not_done r one.0 (sym (reached-stops k s r e step) ∙ one.1)
+
+-- ---- what a step answered: it was done, or it is refused
+pub stepped : (services : List Float) (t : Table) (mem after : List ℕ) (r : Result ⊤ Stopped) → is_err r ≡ false → Steps r services t mem after → Went services t mem after
+stepped services t mem after (Ok tt) e s = s
+stepped services t mem after (Err why) e s = absurd (false≢true (sym e))
+
+pub not_stepped : (services : List Float) (t : Table) (mem after : List ℕ) (r : Result ⊤ Stopped) → is_err r ≡ true → Steps r services t mem after → (q : Refusal) × (step_on t services (sim_in t mem) ≡ refused q)
+not_stepped services t mem after (Ok tt) e s = absurd (false≢true e)
+not_stepped services t mem after (Err (stopped.Untouched q)) e s = (q, s.is)
+not_stepped services t mem after (Err (stopped.Halfway q)) e s = (q, s)
 
 -- ---- the words of a lent state, copied
 module _ (state mem : List ℕ) (stored : Stored state) (room : end_of (table_in state) + 2816 ≤ length mem) where
@@ -203,10 +214,10 @@ module _ (services : List Float) (until : Float) (room steps : ℕ) (state mem a
     pub again : reached (table_in state) services steps (sim_of state) ≡ done (sim_in (table_in state) after)
     pub sound : Sound (table_in state) after
 
-abbrev pub Looked : Next → List Float → Float → ℕ → ℕ → List ℕ → List ℕ → List ℕ → Type 0
-Looked (next.On n) services until room steps state mem after = Fits services until room steps state mem after n
-Looked next.Reached services until room steps state mem after = Stays services until room steps state mem after
-Looked (next.Refused r) services until room steps state mem after = Undone services until room steps state mem after r
+abbrev pub Looked : Result (Option ℕ) Refusal → List Float → Float → ℕ → ℕ → List ℕ → List ℕ → List ℕ → Type 0
+Looked (Ok (Some n)) services until room steps state mem after = Fits services until room steps state mem after n
+Looked (Ok None) services until room steps state mem after = Stays services until room steps state mem after
+Looked (Err r) services until room steps state mem after = Undone services until room steps state mem after r
 
 -- ---- a refused step, undone: the words hold what they held
 module _ (services : List Float) (until : Float) (room : ℕ) (t : Table) (mem after : List ℕ) where
@@ -242,8 +253,8 @@ module _ (services : List Float) (until : Float) (room : ℕ) (t : Table) (mem a
     }
 
 -- what the look answers is what the step and the look together do
-pub nexts : (r : Next) (services : List Float) (until : Float) (room steps : ℕ) (state mem mid after : List ℕ) → Went services (table_in state) mem mid → reached (table_in state) services steps (sim_of state) ≡ done (sim_in (table_in state) mem)
+pub nexts : (r : Result (Option ℕ) Refusal) (services : List Float) (until : Float) (room steps : ℕ) (state mem mid after : List ℕ) → Went services (table_in state) mem mid → reached (table_in state) services steps (sim_of state) ≡ done (sim_in (table_in state) mem)
     → Looked r services until room steps state mid after → Nexts r services until room (table_in state) mem after
-nexts (next.On n) services until room steps state mem mid after went held l = goes_on services until room (table_in state) mem after mid went n l.below l.count l.few l.same
-nexts next.Reached services until room steps state mem mid after went held l = arrives services until room (table_in state) mem after mid went l.above l.same
-nexts (next.Refused r) services until room steps state mem mid after went held l = no_room services until room (table_in state) mem after mid went r l.below l.full l.for l.sound (same-done _ _ (sym l.again ∙ held))
+nexts (Ok (Some n)) services until room steps state mem mid after went held l = goes_on services until room (table_in state) mem after mid went n l.below l.count l.few l.same
+nexts (Ok None) services until room steps state mem mid after went held l = arrives services until room (table_in state) mem after mid went l.above l.same
+nexts (Err r) services until room steps state mem mid after went held l = no_room services until room (table_in state) mem after mid went r l.below l.full l.for l.sound (same-done _ _ (sym l.again ∙ held))

@@ -12,15 +12,7 @@ ghost use Rattle.rerunning.specs.Running.{Stored, sim_of, reached, Completed, Ne
 ghost use Rattle.rerunning.specs.RunningLaws.{Looked};
 
 use rules::Refusal;
-use stepping::Stepped;
-
-// One step of a run: so many messages are to be collected, or the run ends.
-#[derive(Clone, Copy)]
-pub enum Next {
-    On(usize),
-    Reached,
-    Refused(Refusal),
-}
+use stepping::Stopped;
 
 // The lent state's simulation into the words that a run works on.
 pub fn load(state: &[u64], mem: &mut [u64], active: usize)
@@ -55,14 +47,10 @@ fn again(state: &[u64], services: &[f64], mem: &mut [u64], active: usize, steps:
     ensures long { length mem.new ≡ length mem.old }
 {
     load(state, mem, active);
-    let mut completed: u64 = 0;
-    while completed < steps {
-        match stepping::step(state, services, mem, active) {
-            Stepped::Done => {}
-            Stepped::Untouched(_) => return,
-            Stepped::Halfway(_) => return,
+    for _completed in 0..steps {
+        if stepping::step(state, services, mem, active).is_err() {
+            return;
         }
-        completed += 1;
     }
 }
 
@@ -75,7 +63,7 @@ fn look(
     until: f64,
     steps: u64,
     room: usize,
-) -> Next
+) -> Result<Option<usize>, Refusal>
     requires { Stored state.now × Sound (table_in state.now) mem.old × (active ≡ end_of (table_in state.now)) × Completed (table_in state.now) services.now steps (sim_of state.now) }
     ensures looks { Looked result services.now until room steps state.now mem.old mem.new }
     ensures long { length mem.new ≡ length mem.old }
@@ -84,15 +72,15 @@ fn look(
     if clock < until {
         let count = mem[0] as usize;
         if count <= room {
-            return Next::On(count);
+            return Ok(Some(count));
         }
         again(state, services, mem, active, steps);
-        return Next::Refused(Refusal::NoOutRoom);
+        return Err(Refusal::NoOutRoom);
     }
-    Next::Reached
+    Ok(None)
 }
 
-// One step more than `steps`, and the look at the clock and at the room left: On, Reached, or Refused. After a refusal the words hold the simulation of the `steps` before it.
+// One step more than `steps`, and the look at the clock and at the room left: so many messages are to be collected, `None` where `until` is reached, or refused. After a refusal the words hold the simulation of the `steps` before it.
 pub fn next_step(
     state: &[u64],
     services: &[f64],
@@ -101,17 +89,17 @@ pub fn next_step(
     until: f64,
     steps: u64,
     room: usize,
-) -> Next
+) -> Result<Option<usize>, Refusal>
     requires { Stored state.now × Sound (table_in state.now) mem.old × (active ≡ end_of (table_in state.now)) × T (is_timer until) × (reached (table_in state.now) services.now steps (sim_of state.now) ≡ done (sim_in (table_in state.now) mem.old)) }
     ensures nexts { Nexts result services.now until room (table_in state.now) mem.old mem.new }
     ensures long { length mem.new ≡ length mem.old }
 {
     match stepping::step(state, services, mem, active) {
-        Stepped::Untouched(refusal) => Next::Refused(refusal),
-        Stepped::Halfway(refusal) => {
+        Ok(()) => look(state, services, mem, active, until, steps, room),
+        Err(Stopped::Untouched(refusal)) => Err(refusal),
+        Err(Stopped::Halfway(refusal)) => {
             again(state, services, mem, active, steps);
-            Next::Refused(refusal)
+            Err(refusal)
         }
-        Stepped::Done => look(state, services, mem, active, until, steps, room),
     }
 }

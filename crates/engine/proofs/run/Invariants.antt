@@ -1,5 +1,5 @@
 -- `engine::run` meets its contract. The loop: the steps taken and the rest from the words as they stand are the whole run. Assumes nothing.
-use Prim.Native.Nat.{◌-◌}
+use Prim.Native.Nat.{◌-◌, ◌≤◌}
 use mathlib.Core.Path.{◌≡◌}
 use lib.ListN.{length}
 use Rattle.lookup.specs.Inside.{table_in}
@@ -9,7 +9,8 @@ use Rattle.engine.proofs.run.Given as goal
 
 abbrev pub invariant-loop-steps : goal.invariant-loop-steps
 invariant-loop-steps l =
-    (length l.mem ≡ length l.initial.mem)
+    (l.steps ≤ l.bound)
+    × (length l.mem ≡ length l.initial.mem)
     × (length l.rows ≡ length l.initial.rows)
     × Underway l.services l.until l.room l.bound (table_in l.state) (sim_of l.state) l.initial.rows l.mem l.rows l.steps l.written
 

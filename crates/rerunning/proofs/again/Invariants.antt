@@ -12,9 +12,9 @@ abbrev pub invariant-loop-completed : goal.invariant-loop-completed
 invariant-loop-completed l =
     (length l.mem ≡ length l.initial.mem)
     × Sound (table_in l.state) l.mem
-    × (reached (table_in l.state) l.services l.completed (sim_of l.state) ≡ done (sim_in (table_in l.state) l.mem))
-    × (l.completed ≤ l.steps)
+    × (reached (table_in l.state) l.services l._completed (sim_of l.state) ≡ done (sim_in (table_in l.state) l.mem))
+    × (l._completed ≤ l.steps)
 
 abbrev pub decreases-loop-completed : goal.decreases-loop-completed
 decreases-loop-completed l =
-    l.steps - l.completed
+    l.steps - l._completed
