@@ -1,5 +1,5 @@
 -- Intake's verdict does not hang on the capacity of a row that omits it, so the migration leaves it as it was. Assumes nothing.
-use Rattle.std.specs.Prelude.{ℕ, suc, ◌+◌, ◌≤◌, ◌≡◌, refl, Bool, true, false, not, ◌&&◌, List, [], ◌∷◌, map, length, leb, ltb, eqb, if◌then◌else◌, Option, None, Some}
+use Rattle.std.specs.Prelude.{ℕ, suc, ◌+◌, ◌≤◌, ◌≡◌, refl, Bool, true, false, not, ◌&&◌, List, [], ◌∷◌, map, length, leb, ltb, eqb, if◌then◌else◌, Option, None, Some, Result, Ok, Err, ⊤}
 use Rattle.std.proofs.Common.{sym, ap, ◌∙◌, subst, inl, inr, arith, eq-eqb, ne_eqb}
 use Rattle.rules.specs.declared.Processor.{Processor}
 use Rattle.rules.specs.Sizes.{is_id, is_port, deepest, most_rows, most_connectors, most_couplings, omitted_capacity}
@@ -9,8 +9,8 @@ use Rattle.rules.specs.Table.{Kind, processor, Row, Coupling, external_input, ex
 use Rattle.rules.specs.Intake as Intake
 use Rattle.rules.specs.Intake.{Posted, kind_rules, is_new, is_coupled_id, parent_fits, depth_of, row_rules, is_component_of, connector_rules, coupling_rules, first_bad_row, first_bad, whole, size_rules}
 use Rattle.rules.specs.Layout.{rows_of, cell, is_given, parent_in, capacity_in, model_row, lent, model_width}
-use Rattle.table.specs.declared.Verdict.{Verdict}
-use Rattle.table.specs.declared.Verdict.TheVariants.{TooLarge, BadRow, BadConnector, BadCoupling, Passed}
+use Rattle.table.specs.declared.BadTable.{BadTable}
+use Rattle.table.specs.declared.BadTable.TheVariants.{TooLarge, Row as RowBad, Connector, Coupling as CouplingBad}
 use Rattle.table.specs.Verdicts.{verdict_of}
 use Rattle.capacities.specs.Migration.{without_end, old_capacity_in, old_model_row, old_lent, written_out}
 use Rattle.capacities.proofs.Migrated.{reads-as-before}
@@ -96,12 +96,12 @@ as_many (None ∷ rs) (None ∷ ss) (broken l) = ap suc (as_many rs ss l)
 as_many (Some r ∷ rs) (Some s ∷ ss) (read h l) = ap suc (as_many rs ss l)
 
 -- ---- the verdict, by what was found
-abbrev found : Bool → Option ℕ → Option ℕ → Option ℕ → Verdict
-found false x y z = TooLarge
-found true (Some k) y z = BadRow k
-found true None (Some k) z = BadConnector k
-found true None None (Some k) = BadCoupling k
-found true None None None = Passed
+abbrev found : Bool → Option ℕ → Option ℕ → Option ℕ → Result ⊤ BadTable
+found false x y z = Err TooLarge
+found true (Some k) y z = Err (RowBad k)
+found true None (Some k) z = Err (Connector k)
+found true None None (Some k) = Err (CouplingBad k)
+found true None None None = Ok tt
 
 judged-by : (p : Posted) → verdict_of (Intake.intake p) ≡ found (hold (size_rules p)) (first_bad_row 0 [] p.rows) (first_bad connector_rules 0 p.connectors) (first_bad (coupling_rules (whole p.rows)) 0 p.couplings)
 unfolding Intake.intake

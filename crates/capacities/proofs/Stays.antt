@@ -1,6 +1,6 @@
 -- A state's table migrated, by today's reading: it holds the same jobs, messages, clock and place, and passes 20 if it did. Assumes nothing.
 use Prim.Native.Nat.{ℕ, zero, suc, ◌+◌, ◌≤◌}
-use Rattle.std.specs.Prelude.{◌≡◌, Bool, true, false, not, ◌&&◌, List, [], ◌∷◌, map, eqb, length, get_or, if◌then◌else◌, Some}
+use Rattle.std.specs.Prelude.{◌≡◌, Bool, true, false, not, ◌&&◌, List, [], ◌∷◌, map, eqb, length, get_or, if◌then◌else◌, Some, Result, Ok, Err, ⊤}
 use Rattle.std.proofs.Math.Path.{refl, sym}
 use Rattle.std.proofs.Common.{ap, ◌∙◌, arith, leb-true, le-leb}
 use Rattle.std.proofs.lemmas.Bool.{false≢true}
@@ -15,8 +15,7 @@ use Rattle.rules.specs.Decides.{whole_table}
 use Rattle.rules.specs.Simulation.{State, Simulation, as_processor}
 use Rattle.rules.specs.Valid.{is_active, state_number, state_fits, states_fit, message_rules, is_valid}
 use Rattle.rules.specs.Layout.{rows_of, model_row, model_width, lent}
-use Rattle.table.specs.declared.Verdict.{Verdict}
-use Rattle.table.specs.declared.Verdict.TheVariants.{TooLarge, BadRow, BadConnector, BadCoupling, Passed}
+use Rattle.table.specs.declared.BadTable.{BadTable}
 use Rattle.table.specs.Verdicts.{verdict_of}
 use Rattle.memory.specs.Words.{word_at, place_in, head_at, phase_in, timer_in, held_in, begin_in, width_of, own_in}
 use Rattle.memory.specs.View.{state_in, word_rules}
@@ -120,12 +119,9 @@ module _ (t u : Table) (rows : Alike t.rows u.rows) (mem : List ℕ) where
   fit_same = λ j. every (λ i. rules-here i j) (from 0 (many j))
 
 -- ---- intake passes both or neither
-abbrev passed_by : Verdict → Bool
-passed_by TooLarge = false
-passed_by (BadRow row) = false
-passed_by (BadConnector row) = false
-passed_by (BadCoupling row) = false
-passed_by Passed = true
+abbrev passed_by : Result ⊤ BadTable → Bool
+passed_by (Err bad) = false
+passed_by (Ok u) = true
 
 passed_is : (v : Intake.Verdict) → is_passed v ≡ passed_by (verdict_of v)
 passed_is Intake.too_large = refl

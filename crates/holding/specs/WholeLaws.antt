@@ -1,5 +1,5 @@
 -- The laws of the whole: the rows one after the other, the active messages, the table; and that all of these are what 20 asks of a lent state. Assumes nothing.
-use Rattle.std.specs.Prelude.{ℕ, suc, ◌+◌, ◌-◌, ◌*◌, ◌≤◌, ◌<◌, ◌^◌, ◌≡◌, Bool, true, false, List, map, length, get_or, take, drop, leb, None, Option, Some, Result, Ok, Err, ⊤}
+use Rattle.std.specs.Prelude.{ℕ, suc, ◌+◌, ◌-◌, ◌*◌, ◌≤◌, ◌<◌, ◌^◌, ◌≡◌, Bool, true, false, List, map, length, get_or, take, drop, leb, None, Option, Some, Result, Err, is_ok, ⊤}
 use Rattle.std.proofs.Math.Path.{refl, sym, ap, subst}
 use Rattle.std.proofs.Common.{◌∙◌, length-drop, take_all, get_or-drop}
 use native.Mathlib.Omega.{arith}
@@ -204,11 +204,7 @@ message-rest m a b c d e =
     (λ h. let l = (tells (message-decides m) h).1.1.1.1.1 in passes (at-most m.content 4294967295) (omega arith))
 
 -- ---- the table
-abbrev passing : Result ⊤ BadTable → Bool
-passing (Err bad) = false
-passing (Ok u) = true
-
-passing-is : (v : Intake.Verdict) → is_passed v ≡ passing (verdict_of v)
+passing-is : (v : Intake.Verdict) → is_passed v ≡ is_ok (verdict_of v)
 passing-is Intake.too_large = refl
 passing-is (Intake.bad_row k) = refl
 passing-is (Intake.bad_connector k) = refl
@@ -232,7 +228,7 @@ module _ (state : List ℕ) where
 
   -- more rows than there may be
   large : (needed ≤ length state → verdict_of (intake (posted_in state)) ≡ Err TooLarge) → false ≡ table_fits state
-  large f = sym (is_false table-decides (λ h. subst T (passing-is (intake (posted_in state)) ∙ ap passing (f h.0)) h.1))
+  large f = sym (is_false table-decides (λ h. subst T (passing-is (intake (posted_in state)) ∙ ap is_ok (f h.0)) h.1))
 
   module _ (room : needed ≤ length state) where
     models-words : length (models_in state) ≡ count_in 0 state * 10
@@ -255,11 +251,11 @@ module _ (state : List ℕ) where
       large (λ r. let m = models-words r in let n = connectors-words r in let o = couplings-words r in large-couplings (models_in state) (connectors_in state) (couplings_in state) (omega arith) (omega arith) (omega arith))
 
   -- what intake answers for the parts as they are lent
-  pub table-says : tail_at state + count_in 0 state * 196 + 1539 ≤ length state → (told known : Result ⊤ BadTable) → told ≡ verdict_of (intake (lent (lent_models state) (lent_connectors state) (lent_couplings state))) → told ≡ known → passing known ≡ table_fits state
+  pub table-says : tail_at state + count_in 0 state * 196 + 1539 ≤ length state → (told known : Result ⊤ BadTable) → told ≡ verdict_of (intake (lent (lent_models state) (lent_connectors state) (lent_couplings state))) → told ≡ known → is_ok known ≡ table_fits state
   unfolding table_fits
   table-says l told known e f =
       let parts : lent (lent_models state) (lent_connectors state) (lent_couplings state) ≡ posted_in state = λ i. lent (models-part state i) (connectors-part state i) (couplings-part state i) in
-      ap passing (sym f ∙ e ∙ ap (λ (p : Posted). verdict_of (intake p)) parts) ∙ sym (passing-is (intake (posted_in state)))
+      ap is_ok (sym f ∙ e ∙ ap (λ (p : Posted). verdict_of (intake p)) parts) ∙ sym (passing-is (intake (posted_in state)))
       ∙ sym (rw (is_true (at-most needed (length state)) (omega arith)) (one (is_passed (intake (posted_in state)))))
 
   -- ---- the table passes: it is inside, and the changing part is as long as any of its states

@@ -1,5 +1,7 @@
 -- `holding::table_fits` meets its contract: the counts, the length, and what intake answers. Assumes nothing.
-use Rattle.holding.specs.WholeLaws.{table-short, many-rows, many-connectors, many-couplings, table-cut}
+use Rattle.std.proofs.Common.{◌∙◌}
+use Rattle.std.specs.Prelude.{refl}
+use Rattle.holding.specs.WholeLaws.{table-short, many-rows, many-connectors, many-couplings, table-cut, table-says}
 use Rattle.holding.proofs.table_fits.Goals as goal
 
 pub returns-then-state-lt1542 : goal.returns-then-state-lt1542
@@ -21,3 +23,8 @@ returns-then-state-gt256-2 c =
 pub returns-then-state-tail : goal.returns-then-state-tail
 returns-then-state-tail c =
     table-cut c.args.state.now c.if-state-tail.true
+
+pub returns : goal.returns
+returns c =
+    c.is_ok.ensures.value
+    ∙ table-says c.args.state.now c.if-state-tail.false c.intake.result _ c.intake.ensures refl
