@@ -1,5 +1,4 @@
 -- `row_timers::least_timer` meets its contract. The loop's invariant: the least so far and the least of the rows to come are the least timer. Assumes nothing.
-use Prim.Native.Nat.{◌-◌}
 use mathlib.Core.Path.{◌≡◌}
 use lib.ListN.{length}
 use lib.Dec.{T}
@@ -15,6 +14,3 @@ invariant-loop-row l =
     (l.end ≡ length (table_in l.state).rows)
     × T (is_timer l.least)
     × (least_of l.least (least_from (table_in l.state) l.mem l.row l.end) ≡ least_timer (table_in l.state) (states_in (table_in l.state) l.mem))
-
-abbrev pub decreases-loop-row : goal.decreases-loop-row
-decreases-loop-row l = l.end - l.row

@@ -11,7 +11,3 @@ abbrev pub invariant-loop-row : goal.invariant-loop-row
 invariant-loop-row l =
     (l.end ≡ length (table_in l.state).rows)
     × (stop_from (at_zero l.mem) l.row (l.end - l.row) ≡ stop_from (at_zero l.mem) l.from (length (table_in l.state).rows - l.from))
-
-abbrev pub decreases-loop-row : goal.decreases-loop-row
-decreases-loop-row l =
-    l.end - l.row

@@ -1,5 +1,4 @@
 -- `row_timers::pass` meets its contract. The loop's invariant: the rows before this one have had their turn. Assumes nothing.
-use Prim.Native.Nat.{◌-◌}
 use mathlib.Core.Path.{◌≡◌}
 use lib.ListN.{length}
 use Rattle.lookup.specs.Inside.{table_in}
@@ -8,6 +7,3 @@ use Rattle.row_timers.proofs.pass.Given as goal
 
 abbrev pub invariant-loop-row : goal.invariant-loop-row
 invariant-loop-row l = (l.end ≡ length (table_in l.state).rows) × Partly (table_in l.state) l.advance l.row l.initial.mem l.mem
-
-abbrev pub decreases-loop-row : goal.decreases-loop-row
-decreases-loop-row l = l.end - l.row
