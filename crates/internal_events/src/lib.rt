@@ -40,6 +40,7 @@ fn atom_internal(
 
 // A model's timer has run out: the rules' internal event, done in the rows' words, or refused as there. So many levels are left below it.
 // What it puts out stands from `at` on; what the models inside put out, after that, 256 words a level.
+// kept: what an event is lent goes side by side, since `mem` alone is written; a struct with all of it would be lent as written whole, and its clauses say of each other field that it stays
 #[cycle(coupled_internal_internal_turn_turns)]
 pub fn internal(
     state: &[u64],

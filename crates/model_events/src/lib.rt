@@ -77,6 +77,7 @@ fn atom_external(
 }
 
 // A message comes to a model, `content` at `port`: the rules' external event, done in the rows' words, or refused as there. So many levels are left below it.
+// kept: what an event is lent goes side by side, since `mem` alone is written; a struct with all of it would be lent as written whole, and its clauses say of each other field that it stays
 #[cycle(external_to_components_to_target)]
 pub fn external(
     state: &[u64],
