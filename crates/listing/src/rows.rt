@@ -72,23 +72,25 @@ impl Blocks<'_, '_> {
 
     fn read(&mut self, source: &mut Source) -> io::Result<()> {
         if pass(source, self.number)? {
-            return self.pieces(source);
+            let mut piece: room::Piece = room::filled(0);
+            return self.pieces(source, &mut piece);
         }
         self.bad(&[], true);
         Ok(())
     }
 
     // Piece by piece, up to the file's end. All but a piece's last byte are blocks, and that one is the next block's first.
-    fn pieces(&mut self, source: &mut Source) -> io::Result<()> {
-        let mut piece: room::Piece = room::filled(0);
+    fn pieces(&mut self, source: &mut Source, piece: &mut [u8]) -> io::Result<()> {
+        let Some(end) = piece.len().checked_sub(1) else {
+            return Ok(());
+        };
         let mut held = 0;
         for _ in 0..MOST_PIECES {
             let length = held + source.fill(&mut piece[held..])?;
-            if length < piece.len() {
+            if length <= end {
                 self.blocks(&piece[..length], true);
                 return Ok(());
             }
-            let end = piece.len() - 1;
             self.blocks(&piece[..end], false);
             if !self.listing.goes_on() {
                 return Ok(());
