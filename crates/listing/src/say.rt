@@ -1,5 +1,5 @@
 // What standard error says: what is wrong with the file, why something was refused, and what is left out.
-use crate::course::{Bench, Course, Status};
+use crate::course::{Bench, Course};
 use crate::out::{Decimal, Refused};
 use crate::steps;
 use bench_file::{Expected, Page, Value, Wanted, Word};

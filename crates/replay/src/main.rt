@@ -3,7 +3,6 @@
 
 mod say;
 
-use memory::Answer;
 use rules::Message;
 use simulation::Simulation;
 use std::io;
