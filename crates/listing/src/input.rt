@@ -1,8 +1,9 @@
 // The bench file's bytes, and what the command asks for.
-ghost use Rattle.std.specs.Prelude.{◌≤◌, length};
+ghost use Rattle.std.specs.Prelude.{◌≤◌, length, IfOk};
 
 use crate::course::Settings;
 use crate::say;
+use bench_words::Number;
 use std::env::{Env, FillError};
 use std::fs::File;
 use std::io::{ErrorKind, Read, Seek, SeekFrom, Stdin};
@@ -32,112 +33,85 @@ impl Source {
             Source::Named(file) => file.seek(SeekFrom::Current(bytes)).is_ok(),
         }
     }
+
+    // Reads until the room is full, or to the file's end: how many bytes that are.
+    pub(crate) fn fill(&mut self, room: &mut [u8]) -> io::Result<usize>
+        ensures { IfOk result (λ count. count ≤ length room.new) }
+    {
+        let mut length = 0;
+        // kept: a turn goes on by as many bytes as the system gives, so no range and no iterator counts them
+        while length < room.len() {
+            match self.read(&mut room[length..])? {
+                0 => return Ok(length),
+                more => length += more,
+            }
+        }
+        Ok(length)
+    }
 }
 
-// How long an argument is: 0 where there is none, or too little room for it.
-pub(crate) fn argument(rt: HostRuntime, at: usize, word: &mut [u8]) -> usize
-    ensures { result ≤ length word.new }
-{
-    match rt.arg(at, word) {
-        Ok(length) => length,
-        Err(_) => 0,
+// An argument; empty where there is none, or too little room for it.
+pub(crate) fn argument(rt: HostRuntime, at: usize, room: &mut [u8]) -> &[u8] {
+    match rt.arg(at, room) {
+        Ok(length) => &room[..length],
+        Err(_) => &[],
     }
 }
 
 // The name of the file, from the first argument: `-`, or none at all, is standard input. An empty one is the name of no file.
-pub(crate) fn name(rt: HostRuntime, path: &mut [u8]) -> usize {
-    match rt.arg(1, path) {
-        Ok(length) => return length,
-        Err(FillError::TooLong) => return 0,
-        Err(FillError::NotPresent) => {}
+pub(crate) fn name(rt: HostRuntime, room: &mut [u8]) -> &[u8] {
+    match rt.arg(1, room) {
+        Ok(length) => &room[..length],
+        Err(FillError::TooLong) => &[],
+        Err(FillError::NotPresent) => b"-",
     }
-    if path.len() == 0 {
-        return 0;
-    }
-    path[0] = b'-';
-    1
-}
-
-fn is_standard(path: &[u8]) -> bool {
-    if path.len() != 1 {
-        return false;
-    }
-    path[0] == b'-'
 }
 
 // A name that is no UTF-8 leads to no file here.
 pub(crate) fn path_of(name: &[u8]) -> io::Result<&str> {
-    match str::from_utf8(name) {
-        Ok(path) => Ok(path),
-        Err(_) => Err(io::Error::from(ErrorKind::InvalidFilename)),
-    }
+    str::from_utf8(name).map_err(|_| io::Error::from(ErrorKind::InvalidFilename))
 }
 
 pub(crate) fn open(rt: HostRuntime, path: &[u8]) -> io::Result<Source> {
-    if is_standard(path) {
-        return Ok(Source::Standard(rt.stdin()));
-    }
-    let file = File::open(&rt, path_of(path)?)?;
-    Ok(Source::Named(file))
-}
-
-// How many bytes there are; as many as the buffer has where the file cannot be read or is too long, and then it was said.
-pub(crate) fn read(rt: HostRuntime, path: &[u8], text: &mut [u8]) -> usize {
-    match open(rt, path) {
-        Ok(mut source) => read_from(rt, &mut source, path, text),
-        Err(error) => {
-            say::fail(rt, path, error);
-            text.len()
-        }
+    match path {
+        b"-" => Ok(Source::Standard(rt.stdin())),
+        _ => Ok(Source::Named(File::open(&rt, path_of(path)?)?)),
     }
 }
 
-fn read_from(rt: HostRuntime, source: &mut Source, path: &[u8], text: &mut [u8]) -> usize {
-    let mut length = 0;
-    while length < text.len() {
-        match source.read(&mut text[length..]) {
-            Ok(0) => return length,
-            Ok(more) => length += more,
-            Err(error) => {
-                say::fail(rt, path, error);
-                return text.len();
-            }
-        }
+fn filled(rt: HostRuntime, path: &[u8], room: &mut [u8]) -> io::Result<usize> {
+    open(rt, path)?.fill(room)
+}
+
+// The file's text; None where the file cannot be read or leaves no room, and then it was said.
+pub(crate) fn read<'a>(rt: HostRuntime, path: &[u8], room: &'a mut [u8]) -> Option<&'a [u8]> {
+    match filled(rt, path, room) {
+        Ok(length) if length < room.len() => return Some(&room[..length]),
+        Ok(_) => say::too_long(rt.stderr(), path),
+        Err(error) => say::fail(rt, path, error),
     }
-    say::too_long(rt.stderr(), path);
-    length
+    None
 }
 
 // Whether the second argument, the command's own, has this letter.
 pub(crate) fn has(rt: HostRuntime, letter: u8) -> bool {
-    let mut word = [0u8; 8];
-    let length = argument(rt, 2, &mut word);
-    let mut at = 0;
-    while at < 8 {
-        if length <= at {
-            return false;
-        }
-        if word[at] == letter {
-            return true;
-        }
-        at += 1;
-    }
-    false
+    let mut room = [0u8; 8];
+    argument(rt, 2, &mut room).contains(&letter)
 }
 
-// No trace is open yet.
-pub(crate) fn settings(rt: HostRuntime, rows: bool) -> Settings<'static> {
+pub(crate) fn settings(rt: HostRuntime, rows: bool) -> Settings {
     Settings {
         rows,
         decimal: has(rt, b'd'),
         quiet: has(rt, b'q'),
-        trace: None,
     }
 }
 
 // The block from which on a trace is read: the third argument, which the command has looked at.
 pub(crate) fn first_block(rt: HostRuntime) -> u64 {
-    let mut word = [0u8; 20];
-    let length = argument(rt, 3, &mut word);
-    bench_words::number_of(&word[..length], u64::MAX).unwrap_or(0)
+    let mut room = [0u8; 20];
+    match bench_words::number_of(argument(rt, 3, &mut room), u64::MAX) {
+        Number::Is(number) => number,
+        Number::Not => 0,
+    }
 }

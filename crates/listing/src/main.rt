@@ -16,27 +16,25 @@ mod trace;
 mod warn;
 mod why;
 
+use course::Status;
+
 fn main(rt: HostRuntime) {
-    let mut path = room::page();
-    let length = input::name(rt, &mut path);
-    if length <= path.len() {
-        course::tell(rt, asked(rt, &path[0..length]));
-    }
+    let mut room: room::Page = room::filled(0);
+    course::tell(rt, asked(rt, input::name(rt, &mut room)));
 }
 
-fn asked(rt: HostRuntime, path: &[u8]) -> u64 {
+// How it ended.
+fn asked(rt: HostRuntime, path: &[u8]) -> Status {
     if input::has(rt, b'r') {
         return rows::print(rt, path);
     }
     file(rt, path)
 }
 
-// How it ended.
-fn file(rt: HostRuntime, path: &[u8]) -> u64 {
-    let mut text = room::bytes();
-    let length = input::read(rt, path, &mut text);
-    if length < text.len() {
-        return run::file(rt, path, &text[0..length]);
+fn file(rt: HostRuntime, path: &[u8]) -> Status {
+    let mut room: room::Text = room::filled(0);
+    match input::read(rt, path, &mut room) {
+        Some(text) => run::file(rt, path, text),
+        None => Status::Wrong,
     }
-    course::WRONG
 }

@@ -1,157 +1,148 @@
 // The listing: gathered in a lent buffer, and written to standard output when that is full and at the end.
-ghost use Rattle.std.specs.Prelude.{◌≤◌};
-
-use crate::course::Course;
-use crate::{course, say};
+use crate::course::Status;
+use crate::say;
+use rules::Refusal;
+use std::fmt;
+use std::fmt::{Display, Write};
 use std::io::ErrorKind;
 
-// The digits of a number in hexadecimal.
-const HEX: [u8; 16] = *b"0123456789abcdef";
+#[derive(Drop)]
+pub(crate) struct Listing<'a> {
+    pub rt: HostRuntime,
+    pub status: Status,
+    buffer: &'a mut [u8],
+    // How many bytes wait in the buffer.
+    held: usize,
+}
 
-// Writes bytes to standard output: the status where that fails.
-fn write(bytes: &[u8], c: Course) -> u64 {
-    let status = c.status;
-    if status == course::LOST {
-        return status;
-    }
-    if status == course::LEFT {
-        return status;
-    }
-    match c.rt.stdout().write_all(bytes) {
-        Ok(()) => status,
-        Err(error) => {
-            if error.kind() == ErrorKind::BrokenPipe {
-                return course::left(status);
-            }
-            say::fail(c.rt, b"jambthrush: standard output", error);
-            course::LOST
+impl<'a> Listing<'a> {
+    pub(crate) fn new(rt: HostRuntime, buffer: &'a mut [u8]) -> Self {
+        Listing {
+            rt,
+            status: Status::Ran,
+            buffer,
+            held: 0,
         }
     }
 }
 
-// Writes what waits. Once that failed, nothing more is written.
-pub(crate) fn flush(out: &[u8], c: Course) -> Course {
-    let held = c.held;
-    if held <= out.len() {
-        let status = write(&out[0..held], c);
-        return course::written(c, status);
+impl Listing<'_> {
+    pub(crate) fn goes_on(&self) -> bool {
+        matches!(self.status, Status::Ran)
     }
-    c
-}
 
-fn byte(out: &mut [u8], c: Course, b: u8) -> Course {
-    let mut after = c;
-    if out.len() <= c.held {
-        after = flush(out, c);
+    // Writes what waits. Once that failed, nothing more is written.
+    pub(crate) fn flush(&mut self) {
+        let held = self.held;
+        if held <= self.buffer.len() {
+            self.status = written(self.rt, self.status, &self.buffer[..held]);
+        }
+        self.held = 0;
     }
-    let at = after.held;
-    if at < out.len() {
-        out[at] = b;
-        after.held = at + 1;
-    }
-    after
-}
 
-pub(crate) fn text(out: &mut [u8], c: Course, bytes: &[u8]) -> Course {
-    let mut after = c;
-    let mut at = 0;
-    while at < bytes.len() {
-        after = byte(out, after, bytes[at]);
-        at += 1;
-    }
-    after
-}
-
-pub(crate) fn number(out: &mut [u8], c: Course, n: u64) -> Course {
-    let mut digits = [0u8; 20];
-    let start = lay_digits(n, &mut digits);
-    text(out, c, &digits[start..])
-}
-
-// Lays the digits of a number at the end of the room for them: where they start.
-fn lay_digits(n: u64, digits: &mut [u8; 20]) -> usize
-    ensures { result ≤ 20 }
-{
-    let mut rest = n;
-    let mut at = 20;
-    while 0 < at {
-        at -= 1;
-        digits[at] = b'0' + (rest % 10) as u8;
-        rest = rest / 10;
-        if rest == 0 {
-            return at;
+    fn byte(&mut self, byte: u8) {
+        if self.buffer.len() <= self.held {
+            self.flush();
+        }
+        let held = self.held;
+        if held < self.buffer.len() {
+            self.buffer[held] = byte;
+            self.held = held + 1;
         }
     }
-    at
-}
 
-pub(crate) fn bits(out: &mut [u8], c: Course, word: u64) -> Course {
-    let digits = sixteen(word);
-    text(out, c, &digits)
-}
-
-// The digits of a word in hexadecimal, zeros in front.
-fn sixteen(word: u64) -> [u8; 16] {
-    let mut digits = [b'0'; 16];
-    let mut rest = word;
-    let mut at = 16;
-    while 0 < at {
-        at -= 1;
-        digits[at] = HEX[(rest % 16) as usize];
-        rest = rest / 16;
+    pub(crate) fn print(&mut self, text: impl Display + Drop) {
+        let _ = write!(self, "{text}");
     }
-    digits
+
+    // How something ended by a refusal.
+    pub(crate) fn end_refused(&mut self, refusal: Refusal) {
+        let refused = Refused(refusal);
+        self.print(format_args!("{refused}\n"));
+        self.flush();
+    }
 }
 
-// A text without the dots that fill it up to 32 bytes.
-pub(crate) fn padded(out: &mut [u8], c: Course, filled: [u8; 32]) -> Course {
-    let length = bench_file::text_length(filled);
-    if length <= 32 {
-        return text(out, c, &filled[0..length]);
+impl Write for Listing<'_> {
+    fn write_str(&mut self, s: &str) -> fmt::Result {
+        for byte in s.as_bytes() {
+            self.byte(*byte);
+        }
+        Ok(())
     }
-    c
+}
+
+// Writes bytes to standard output: how it stands then. Where nobody reads the listing, a trace that could not be written still counts.
+fn written(rt: HostRuntime, status: Status, bytes: &[u8]) -> Status {
+    if let Status::Lost | Status::Left = status {
+        return status;
+    }
+    let Err(error) = rt.stdout().write_all(bytes) else {
+        return status;
+    };
+    if error.kind() != ErrorKind::BrokenPipe {
+        say::fail(rt, b"jambthrush: standard output", error);
+        return Status::Lost;
+    }
+    match status {
+        Status::Cut => Status::Cut,
+        _ => Status::Left,
+    }
+}
+
+// `refused N NAME`
+#[derive(Clone, Copy)]
+pub(crate) struct Refused(pub Refusal);
+
+impl Display for Refused {
+    fn fmt<W: fmt::Write>(&self, f: &mut fmt::Formatter<W>) -> fmt::Result {
+        let number = rules::number(self.0);
+        let name = name(self.0);
+        write!(f, "refused {number} {name}")
+    }
+}
+
+fn name(refusal: Refusal) -> &'static str {
+    match refusal {
+        Refusal::TooLarge => "TooLarge",
+        Refusal::BadRow => "BadRow",
+        Refusal::BadCoupling => "BadCoupling",
+        Refusal::ModelNotFound => "ModelNotFound",
+        Refusal::InvalidMessage => "InvalidMessage",
+        Refusal::InvalidModelState => "InvalidModelState",
+        Refusal::NoQueueRoom => "NoQueueRoom",
+        Refusal::NoMessageRoom => "NoMessageRoom",
+        Refusal::NoServiceTime => "NoServiceTime",
+        Refusal::BadTime => "BadTime",
+        Refusal::ClockOverflow => "ClockOverflow",
+        Refusal::Idle => "Idle",
+        Refusal::NoOutRoom => "NoOutRoom",
+        Refusal::BadBlock => "BadBlock",
+        Refusal::BadState => "BadState",
+    }
 }
 
 // A time in decimal: at most six places after the point, and no zeros at their end.
-pub(crate) fn decimal(out: &mut [u8], c: Course, time: f64) -> Course {
-    let read = decimals::micros_of(time);
-    let after = number(out, c, read.whole);
-    if read.micros == 0 {
-        return after;
-    }
-    let point = text(out, after, b".");
-    fraction(out, point, six(read.micros))
-}
+#[derive(Clone, Copy)]
+pub(crate) struct Decimal(pub f64);
 
-fn fraction(out: &mut [u8], c: Course, places: [u8; 6]) -> Course {
-    let end = significant(places);
-    if end <= 6 {
-        return text(out, c, &places[0..end]);
-    }
-    c
-}
-
-// The six digits of a number below 1,000,000.
-pub(crate) fn six(micros: u64) -> [u8; 6] {
-    let mut digits = [b'0'; 6];
-    let mut rest = micros;
-    let mut at = 6;
-    while 0 < at {
-        at -= 1;
-        digits[at] = b'0' + (rest % 10) as u8;
-        rest = rest / 10;
-    }
-    digits
-}
-
-// How many there are before the zeros at the end.
-pub(crate) fn significant(digits: [u8; 6]) -> usize {
-    let mut end = 6;
-    while 0 < end {
-        if digits[end - 1] != b'0' {
-            return end;
+impl Display for Decimal {
+    fn fmt<W: fmt::Write>(&self, f: &mut fmt::Formatter<W>) -> fmt::Result {
+        let read = decimals::micros_of(self.0);
+        let whole = read.whole;
+        let mut rest = read.micros;
+        write!(f, "{whole}")?;
+        if rest != 0 {
+            write!(f, ".")?;
         }
-        end -= 1;
+        for place in [100_000, 10_000, 1_000, 100, 10, 1] {
+            if rest == 0 {
+                break;
+            }
+            let digit = rest / place;
+            write!(f, "{digit}")?;
+            rest %= place;
+        }
+        Ok(())
     }
-    0
 }

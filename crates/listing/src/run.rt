@@ -1,41 +1,43 @@
 // Runs what a bench file says.
-ghost use Rattle.std.specs.Prelude.{◌≤◌, length};
-
-use crate::course::{Course, Settings};
-use crate::{course, input, out, room, say, steps, trace, warn, why};
-use bench_file::{Counts, Page};
+use crate::course::{Bench, Course, Settings, Status};
+use crate::out::{Listing, Refused};
+use crate::trace::Trace;
+use crate::{input, room, say, trace, warn, why};
+use bench_file::{Page, Reading};
 use memory::Answer;
 use rules::{Message, Refusal};
-use std::io::Stderr;
 use times::TimeOf;
 
-// The first word of an action's row. The fourth kind is step_until_idle.
-pub(crate) const INJECT: u64 = 1;
+// What an action's row asks for, by its first word.
+#[derive(Clone, Copy)]
+pub(crate) enum Action {
+    Inject,
+    StepN,
+    StepUntil,
+    StepUntilIdle,
+}
 
-const STEP_N: u64 = 2;
-
-const STEP_UNTIL: u64 = 3;
-
-// How many words the rows of a page take.
-fn used(rows: usize, width: usize, page: &[u64]) -> usize
-    ensures { result ≤ length page.now }
-{
-    if width == 0 {
-        return 0;
+pub(crate) fn action_of(cells: &[u64; 7]) -> Action {
+    match cells[0] {
+        1 => Action::Inject,
+        2 => Action::StepN,
+        3 => Action::StepUntil,
+        _ => Action::StepUntilIdle,
     }
-    if page.len() / width < rows {
-        return page.len();
-    }
-    rows * width
+}
+
+// The first of a page's rows, so many.
+fn first_rows(page: &[u64], rows: usize, width: usize) -> &[u64] {
+    page.get(..rows.saturating_mul(width)).unwrap_or(page)
 }
 
 // The file is read whole before anything is run. How it ended.
-pub(crate) fn file(rt: HostRuntime, path: &[u8], text: &[u8]) -> u64 {
+pub(crate) fn file(rt: HostRuntime, path: &[u8], text: &[u8]) -> Status {
     let mut models = [0u64; 1280];
     let mut connectors = [0u64; 2048];
     let mut couplings = [0u64; 3072];
-    let mut services = room::services();
-    let mut actions = room::actions();
+    let mut services: room::ServiceBits = room::filled(0);
+    let mut actions: room::Actions = room::filled(0);
     let reading = bench_file::read(
         text,
         &mut models,
@@ -45,171 +47,97 @@ pub(crate) fn file(rt: HostRuntime, path: &[u8], text: &[u8]) -> u64 {
         &mut actions,
     );
     match reading {
-        Err(wrong) => {
-            say::wrong_line(
-                rt.stderr(),
+        Reading::Wrong {
+            line,
+            column,
+            expected,
+        } => {
+            say::wrong_line(rt.stderr(), path, text, line, column, expected);
+            Status::Wrong
+        }
+        Reading::Read(counts) => {
+            let bench = Bench {
                 path,
                 text,
-                wrong.line,
-                wrong.column,
-                wrong.expected,
-            );
-            course::WRONG
+                models: first_rows(&models, counts.models, 10),
+                connectors: first_rows(&connectors, counts.connectors, 4),
+                couplings: first_rows(&couplings, counts.couplings, 6),
+                services: first_rows(&services, counts.services, 1),
+                actions: first_rows(&actions, counts.actions, 7),
+            };
+            post(rt, bench, input::settings(rt, counts.rows))
         }
-        Ok(counts) => posted(
-            rt,
-            path,
-            text,
-            &models,
-            &connectors,
-            &couplings,
-            &services,
-            &actions,
-            counts,
-        ),
     }
 }
 
 // Posts the table, and goes on with the actions.
-fn posted(
-    rt: HostRuntime,
-    path: &[u8],
-    text: &[u8],
-    models: &[u64],
-    connectors: &[u64],
-    couplings: &[u64],
-    services: &[u64],
-    actions: &[u64],
-    counts: Counts,
-) -> u64 {
-    let rows = &models[0..used(counts.models, 10, models)];
-    let links = &connectors[0..used(counts.connectors, 4, connectors)];
-    let inner = &couplings[0..used(counts.couplings, 6, couplings)];
-    let times = &services[0..used(counts.services, 1, services)];
-    let orders = &actions[0..used(counts.actions, 7, actions)];
-    let mut state = room::state();
-    let settings = input::settings(rt, counts.rows);
-    match simulation::post(rows, links, inner, &mut state) {
-        Answer::Refused(refusal) => refused_table(rt, path, text, rows, links, inner, refusal),
-        Answer::Done => {
-            if !settings.quiet {
-                say::omitted(rt.stderr(), capacities::omitted(rows));
-                warn::ends(rt.stderr(), path, text, rows, links, inner, orders);
-            }
-            let c = begin(rt, path, text, &mut state, times, orders, settings);
-            if !settings.quiet {
-                ran(path, text, rows, &state, times.len(), c);
-            }
-            c.status
-        }
+fn post(rt: HostRuntime, bench: Bench, settings: Settings) -> Status {
+    let mut state: room::State = room::filled(0);
+    match simulation::post(bench.models, bench.connectors, bench.couplings, &mut state) {
+        Answer::Refused(refusal) => refused_table(rt, bench, refusal),
+        Answer::Done => begin(rt, bench, settings, &mut state),
     }
 }
 
-// What is left where a file was run to its end, and what is held where its last run ended idle.
-fn ran(path: &[u8], text: &[u8], models: &[u64], state: &[u64], given: usize, c: Course) {
-    if c.status == course::RAN {
-        left_over(c.rt.stderr(), path, text, state, given);
-    }
-    if c.idle {
-        if 0 < c.idle_row {
-            still_held(c.rt.stderr(), path, text, models, state, c.idle_row - 1);
-        }
-    }
-}
-
-fn refused_table(
-    rt: HostRuntime,
-    path: &[u8],
-    text: &[u8],
-    models: &[u64],
-    connectors: &[u64],
-    couplings: &[u64],
-    refusal: Refusal,
-) -> u64 {
+fn refused_table(rt: HostRuntime, bench: Bench, refusal: Refusal) -> Status {
     let err = rt.stderr();
-    let mut buffer = room::page();
-    let c = refused(&mut buffer, course::refused(course::start(rt), refusal));
-    let after = out::flush(&buffer, c);
-    let reason = reasons::reason_of(models, connectors, couplings);
-    let verdict = table::intake(models, connectors, couplings);
-    why::place(err, path, text, verdict, reason);
-    say::refusal_of(err, c);
-    say::text(err, b": ");
-    why::rule(err, text, reason);
-    say::text(err, b"\n");
-    after.status
+    let mut buffer: room::Page = room::filled(0);
+    let mut listing = Listing::new(rt, &mut buffer);
+    listing.status = Status::Refused(refusal);
+    listing.end_refused(refusal);
+    let reason = reasons::reason_of(bench.models, bench.connectors, bench.couplings);
+    let verdict = table::intake(bench.models, bench.connectors, bench.couplings);
+    let refused = Refused(refusal);
+    why::place(err, bench, verdict, reason);
+    say::print(err, format_args!("{refused}: "));
+    why::rule(err, bench.text, reason);
+    say::print(err, "\n");
+    listing.status
 }
 
-// The service times, from their bits, as many as there is room for.
-fn lay(times: &mut [f64], bits: &[u64]) {
-    let mut count = 0;
-    while count < bits.len() {
-        if times.len() <= count {
-            return;
-        }
-        times[count] = time_of(bits[count]);
-        count += 1;
+fn begin(rt: HostRuntime, bench: Bench, settings: Settings, state: &mut [u64]) -> Status {
+    let err = rt.stderr();
+    if !settings.quiet {
+        say::omitted(err, capacities::omitted(bench.models));
+        warn::ends(err, bench);
     }
-}
-
-fn first_line(buffer: &mut [u8], c: Course, settings: Settings) -> Course {
-    if settings.decimal {
-        return out::text(buffer, c, b"step clock decimal messages\n");
-    }
-    out::text(buffer, c, b"step clock messages\n")
-}
-
-// There is room for as many service times as a file can have.
-fn begin(
-    rt: HostRuntime,
-    path: &[u8],
-    text: &[u8],
-    state: &mut [u64],
-    bits: &[u64],
-    actions: &[u64],
-    settings: Settings,
-) -> Course {
-    let mut times = room::times();
-    lay(&mut times, bits);
-    let c = course::start(rt);
+    let mut room: room::ServiceTimes = room::filled(0.0);
+    let Some(services) = times_of(bench.services, &mut room) else {
+        return Status::Wrong;
+    };
     let Ok(file) = trace::open(rt) else {
-        return course::ended(c, course::CUT);
+        return Status::Cut;
     };
-    let traced = Settings {
-        trace: file.as_ref(),
-        ..settings
-    };
-    if bits.len() <= 65536 {
-        return listed(path, text, state, &times[0..bits.len()], actions, c, traced);
-    }
-    course::ended(c, course::WRONG)
-}
-
-fn listed(
-    path: &[u8],
-    text: &[u8],
-    state: &mut [u64],
-    services: &[f64],
-    actions: &[u64],
-    start: Course,
-    settings: Settings,
-) -> Course {
-    let mut buffer = room::listing();
-    let mut rows = room::rows();
-    let first = first_line(&mut buffer, start, settings);
-    let c = act(
-        path,
-        text,
+    let mut buffer: room::Buffer = room::filled(0);
+    let mut rows: room::Rows = room::filled(0);
+    let mut course = Course {
+        settings,
+        listing: Listing::new(rt, &mut buffer),
+        trace: Trace::new(file.as_ref()),
         state,
         services,
-        actions,
-        &mut rows,
-        &mut buffer,
-        first,
-        settings,
-    );
-    let told = out::flush(&buffer, c);
-    trace::finish(&rows, told, settings)
+        rows: &mut rows,
+        number: 1,
+        idle: None,
+    };
+    course.run(bench);
+    course.listing.flush();
+    course.finish();
+    if !settings.quiet {
+        course.warn(bench);
+    }
+    course.listing.status
+}
+
+// The times of these bits, laid into the room, where that is enough for them.
+fn times_of<'a>(bits: &[u64], room: &'a mut [f64]) -> Option<&'a [f64]> {
+    if room.len() < bits.len() {
+        return None;
+    }
+    for (time, bits) in room.iter_mut().zip(bits) {
+        *time = time_of(*bits);
+    }
+    Some(&room[..bits.len()])
 }
 
 // Where the changing part of a state begins.
@@ -220,162 +148,71 @@ fn changing_at(state: &[u64]) -> usize {
     state.len()
 }
 
-fn left_over(err: Stderr, path: &[u8], text: &[u8], state: &[u64], given: usize) {
-    let at = changing_at(state);
-    if at <= state.len() {
-        warn::services(err, path, text, &state[at..], given);
-    }
-}
-
-fn still_held(err: Stderr, path: &[u8], text: &[u8], models: &[u64], state: &[u64], row: usize) {
-    let at = changing_at(state);
-    if at <= state.len() {
-        warn::held(err, path, text, row, models, &state[at..]);
-    }
-}
-
-// The actions in the file's order, up to one that is refused.
-fn act(
-    path: &[u8],
-    text: &[u8],
-    state: &mut [u64],
-    services: &[f64],
-    actions: &[u64],
-    rows: &mut [u64],
-    buffer: &mut [u8],
-    first: Course,
-    settings: Settings,
-) -> Course {
-    let mut c = first;
-    let mut at = 0;
-    let mut row = 0;
-    while 7 <= actions.len() - at {
-        let cells = &actions[at..at + 7];
-        c = one(
-            path, text, state, services, cells, rows, buffer, row, c, settings,
-        );
-        if c.status != course::RAN {
-            return c;
+impl Course<'_> {
+    // The actions in the file's order, up to one that is refused.
+    fn run(&mut self, bench: Bench) {
+        self.listing.print(if self.settings.decimal {
+            "step clock decimal messages\n"
+        } else {
+            "step clock messages\n"
+        });
+        let (rows, _) = bench.actions.as_chunks::<7>();
+        for (row, cells) in rows.iter().enumerate() {
+            self.act(row, cells);
+            if let Status::Refused(refusal) = self.listing.status {
+                self.refused(bench, row, cells, refusal);
+            }
+            if !self.listing.goes_on() {
+                return;
+            }
         }
-        at += 7;
-        row += 1;
     }
-    c
-}
 
-// One action, and what is said where it is refused.
-fn one(
-    path: &[u8],
-    text: &[u8],
-    state: &mut [u64],
-    services: &[f64],
-    cells: &[u64],
-    rows: &mut [u64],
-    buffer: &mut [u8],
-    row: usize,
-    c: Course,
-    settings: Settings,
-) -> Course {
-    let done = action(state, services, cells, rows, buffer, c, settings);
-    let told = course::acted(done, row, is_injection(cells));
-    acted(path, text, state, buffer, cells, row, told)
-}
-
-fn acted(
-    path: &[u8],
-    text: &[u8],
-    state: &[u64],
-    buffer: &mut [u8],
-    cells: &[u64],
-    row: usize,
-    c: Course,
-) -> Course {
-    if c.status != course::REFUSED {
-        return c;
+    fn act(&mut self, row: usize, cells: &[u64; 7]) {
+        let [_, first, second, ..] = *cells;
+        let is_idle = match action_of(cells) {
+            Action::Inject => return self.inject(message_of(cells)),
+            Action::StepN => {
+                self.step_n(first);
+                self.listing.status.is_idle()
+            }
+            Action::StepUntil => {
+                self.step_until(time_of(first), second);
+                self.listing.status.is_idle()
+            }
+            Action::StepUntilIdle => self.step_until_idle(first),
+        };
+        self.idle = is_idle.then_some(row);
     }
-    let told = refused(buffer, c);
-    let after = out::flush(buffer, told);
-    let err = c.rt.stderr();
-    say::place(err, path, bench_file::line_of(text, Page::Actions, row));
-    say::refused(err, c, is_injection(cells), steps::clock(state));
-    after
-}
 
-fn is_injection(cells: &[u64]) -> bool {
-    words::word_at(cells, 0) == INJECT
-}
+    fn inject(&mut self, message: Message) {
+        if let Answer::Refused(refusal) = simulation::inject_input(self.state, message) {
+            self.listing.status = Status::Refused(refusal);
+        }
+    }
 
-// How something ended by a refusal: its number and name.
-pub(crate) fn refused(buffer: &mut [u8], c: Course) -> Course {
-    let begun = out::text(buffer, c, b"refused ");
-    let named = named(buffer, begun);
-    out::text(buffer, named, b"\n")
-}
+    // What is said where an action is refused.
+    fn refused(&mut self, bench: Bench, row: usize, cells: &[u64; 7], refusal: Refusal) {
+        let err = self.listing.rt.stderr();
+        let is_injection = matches!(action_of(cells), Action::Inject);
+        self.listing.end_refused(refusal);
+        say::place(err, bench, Page::Actions, row);
+        say::refused(err, Refused(refusal), self, is_injection);
+    }
 
-fn named(buffer: &mut [u8], c: Course) -> Course {
-    let refusal = c.refusal;
-    let number = out::number(buffer, c, rules::number(refusal) as u64);
-    let begun = out::text(buffer, number, b" ");
-    out::padded(buffer, begun, say::name(refusal))
-}
-
-// One action, a row of seven words.
-fn action(
-    state: &mut [u64],
-    services: &[f64],
-    row: &[u64],
-    rows: &mut [u64],
-    buffer: &mut [u8],
-    c: Course,
-    settings: Settings,
-) -> Course {
-    if row.len() < 7 {
-        return c;
+    // Warns of what is left where the file was run to its end, and of what is held where its last run ended idle.
+    fn warn(&self, bench: Bench) {
+        let err = self.listing.rt.stderr();
+        let Some(changing) = self.state.get(changing_at(self.state)..) else {
+            return;
+        };
+        if self.listing.goes_on() {
+            warn::services(err, bench, changing);
+        }
+        if let Some(action) = self.idle {
+            warn::held(err, bench, action, changing);
+        }
     }
-    let what = row[0];
-    if what == INJECT {
-        return inject(state, message_of(row), c);
-    }
-    run(
-        state,
-        services,
-        row,
-        rows,
-        buffer,
-        course::busy(c),
-        settings,
-    )
-}
-
-fn run(
-    state: &mut [u64],
-    services: &[f64],
-    row: &[u64],
-    rows: &mut [u64],
-    buffer: &mut [u8],
-    c: Course,
-    settings: Settings,
-) -> Course {
-    if row.len() < 7 {
-        return c;
-    }
-    let what = row[0];
-    if what == STEP_N {
-        return steps::count(state, services, row[1], rows, buffer, c, settings);
-    }
-    if what == STEP_UNTIL {
-        return steps::until(
-            state,
-            services,
-            time_of(row[1]),
-            row[2],
-            rows,
-            buffer,
-            c,
-            settings,
-        );
-    }
-    steps::until_idle(state, services, row[1], rows, buffer, c, settings)
 }
 
 // The time that has these bits. What is no time stays none: infinity stands for all of that, and every call refuses them alike.
@@ -388,35 +225,27 @@ fn time_of(bits: u64) -> f64 {
 
 // An id or a port. The reader has kept it below 65536.
 fn short(word: u64) -> u16 {
-    if 65535 < word {
-        return 0;
-    }
-    word as u16
-}
-
-// A content. The reader has kept it below 2^32.
-fn content(word: u64) -> u32 {
-    if 4294967295 < word {
-        return 0;
-    }
-    word as u32
+    u16::try_from(word).unwrap_or(0)
 }
 
 // The words behind an injection's first.
-fn message_of(row: &[u64]) -> Message {
+fn message_of(cells: &[u64; 7]) -> Message {
+    let [
+        _,
+        source_id,
+        source_port,
+        target_id,
+        target_port,
+        time,
+        content,
+    ] = *cells;
     Message {
-        source_id: short(words::word_at(row, 1)),
-        source_port: short(words::word_at(row, 2)),
-        target_id: short(words::word_at(row, 3)),
-        target_port: short(words::word_at(row, 4)),
-        time: time_of(words::word_at(row, 5)),
-        content: content(words::word_at(row, 6)),
-    }
-}
-
-fn inject(state: &mut [u64], message: Message, c: Course) -> Course {
-    match simulation::inject_input(state, message) {
-        Answer::Done => c,
-        Answer::Refused(refusal) => course::refused(c, refusal),
+        source_id: short(source_id),
+        source_port: short(source_port),
+        target_id: short(target_id),
+        target_port: short(target_port),
+        time: time_of(time),
+        // The reader has kept it below 2^32.
+        content: u32::try_from(content).unwrap_or(0),
     }
 }

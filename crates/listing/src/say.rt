@@ -1,34 +1,35 @@
 // What standard error says: what is wrong with the file, why something was refused, and what is left out.
-use crate::course::Course;
-use crate::out;
-use bench_file::{Expected, Value, Wanted, Word};
-use rules::Refusal;
+use crate::course::{Bench, Course};
+use crate::out::{Decimal, Refused};
+use crate::steps;
+use bench_file::{Expected, Page, Value, Wanted, Word};
+use std::fmt::Display;
 use std::io;
 use std::io::Stderr;
 
 // How many bytes of a word are shown.
 const SHOWN: usize = 40;
 
-pub(crate) fn text(err: Stderr, bytes: &[u8]) {
-    let _ = err.write_all(bytes);
+pub(crate) fn print(err: Stderr, text: impl Display + Drop) {
+    let _ = err.print(text);
 }
 
-pub(crate) fn number(err: Stderr, n: u64) {
-    let _ = err.print(n);
+// Bytes that need not be text.
+pub(crate) fn bytes(err: Stderr, bytes: &[u8]) {
+    let _ = err.write_all(bytes);
 }
 
 // `WHAT: ` and the system's words for an error.
 pub(crate) fn fail(rt: HostRuntime, what: &[u8], error: io::Error) {
     let err = rt.stderr();
-    text(err, what);
-    text(err, b": ");
+    bytes(err, what);
     match format!(in rt.alloc(); "{error}") {
-        Ok(words) => text(err, unnumbered(words.as_str()).as_bytes()),
-        Err(_) => {
-            let _ = err.print(error);
+        Ok(words) => {
+            let words = unnumbered(words.as_str());
+            print(err, format_args!(": {words}\n"));
         }
+        Err(_) => print(err, format_args!(": {error}\n")),
     }
-    text(err, b"\n");
 }
 
 // The words for an error without its number, which the library puts behind them.
@@ -40,124 +41,83 @@ fn unnumbered(words: &str) -> &str {
 }
 
 pub(crate) fn too_long(err: Stderr, path: &[u8]) {
-    text(err, path);
-    text(err, b": the file is longer than 4194303 bytes\n");
+    bytes(err, path);
+    print(err, ": the file is longer than 4194303 bytes\n");
 }
 
-// `FILE:LINE: `
-pub(crate) fn place(err: Stderr, path: &[u8], line: u64) {
-    text(err, path);
-    text(err, b":");
-    number(err, line);
-    text(err, b": ");
+// `FILE:LINE: ` of a row of the bench file.
+pub(crate) fn place(err: Stderr, bench: Bench, page: Page, row: usize) {
+    let line = bench_file::line_of(bench.text, page, row);
+    bytes(err, bench.path);
+    print(err, format_args!(":{line}: "));
 }
 
 // A text without the dots that fill it up.
-fn padded(err: Stderr, asked: [u8; 32]) {
-    let length = bench_file::text_length(asked);
-    if length <= 32 {
-        text(err, &asked[0..length]);
+fn padded(err: Stderr, filled: [u8; 32]) {
+    let length = bench_file::text_length(filled);
+    if let Some(text) = filled.get(..length) {
+        bytes(err, text);
     }
 }
 
 // The optional word that may stand there too.
 fn or_word(err: Stderr, word: Word) {
-    match word {
-        Word::Nothing => {}
-        other => {
-            padded(err, bench_file::word_text(other));
-            text(err, b" or ");
-        }
+    if let Word::Nothing = word {
+        return;
     }
+    padded(err, bench_file::word_text(word));
+    print(err, " or ");
 }
 
 // What may stand there, where its name does not say it.
-fn explained(err: Stderr, wanted: Wanted) {
+fn explained(wanted: Wanted) -> &'static str {
     match wanted {
-        Wanted::AnItem => text(
-            err,
-            b" (an item is processor, batcher, stopwatch, coupled, connector, input, output, internal, service, inject_input, step_n, step_until, step_until_idle or rows)",
-        ),
-        Wanted::NoMore => {
-            text(
-                err,
-                b" (at most 128 models, 512 connectors, 512 couplings, 65536 service times, 16384 actions)",
-            )
+        Wanted::AnItem => {
+            " (an item is processor, batcher, stopwatch, coupled, connector, input, output, internal, service, inject_input, step_n, step_until, step_until_idle or rows)"
         }
-        Wanted::AValue(value) => explained_value(err, value),
-        Wanted::TheWord(_) => {}
-    }
-}
-
-fn explained_value(err: Stderr, value: Value) {
-    if let Value::ATime = value {
-        text(
-            err,
-            b" (a time is a whole number up to 9007199254740992, digits with a point among them, 15 at most, or 0x and 16 hex digits)",
-        );
+        Wanted::NoMore => {
+            " (at most 128 models, 512 connectors, 512 couplings, 65536 service times, 16384 actions)"
+        }
+        Wanted::AValue(Value::ATime) => {
+            " (a time is a whole number up to 9007199254740992, digits with a point among them, 15 at most, or 0x and 16 hex digits)"
+        }
+        Wanted::AValue(_) | Wanted::TheWord(_) => "",
     }
 }
 
 // A byte of a word: what cannot be printed is shown as \xNN.
-fn byte(err: Stderr, b: u8) {
-    if b < b' ' {
-        return escaped(err, b);
+fn byte(err: Stderr, byte: u8) {
+    match byte {
+        b'\\' => print(err, format_args!("\\x{byte:02x}")),
+        b' '..=b'~' => bytes(err, &[byte]),
+        _ => print(err, format_args!("\\x{byte:02x}")),
     }
-    if b'~' < b {
-        return escaped(err, b);
-    }
-    if b == b'\\' {
-        return escaped(err, b);
-    }
-    text(err, &[b]);
-}
-
-fn escaped(err: Stderr, b: u8) {
-    text(err, b"\\x");
-    let _ = eprint!(err; "{b:02x}");
 }
 
 // A word, cut where it is long.
 fn quoted(err: Stderr, word: &[u8]) {
-    text(err, b"'");
-    let mut at = 0;
-    while at < word.len() {
-        if SHOWN <= at {
-            text(err, b"'..");
-            return;
-        }
-        byte(err, word[at]);
-        at += 1;
+    print(err, "'");
+    for b in word.iter().take(SHOWN) {
+        byte(err, *b);
     }
-    text(err, b"'");
+    print(err, if SHOWN < word.len() { "'.." } else { "'" });
 }
 
-// Where a line starts, lines counted from 1.
-fn line_start(text: &[u8], line: u64) -> usize {
-    let mut left = line;
-    let mut at = bench_file::mark_length(text);
-    while 1 < left {
-        let end = bench_words::line_end(text, at);
-        if text.len() <= end {
-            return text.len();
-        }
-        at = end + 1;
-        left -= 1;
-    }
-    at
+// A line of a file, lines counted from 1; empty where the file has fewer.
+fn line_in(file: &[u8], line: u64) -> &[u8] {
+    file.get(bench_file::mark_length(file)..)
+        .unwrap_or(&[])
+        .split(|byte| *byte == b'\n')
+        .nth(line.saturating_sub(1) as usize)
+        .unwrap_or(&[])
 }
 
 // The word that stands at a place of a line, or the line's end.
 fn found(err: Stderr, line: &[u8], at: usize) {
     let span = bench_words::next_word(line, at);
-    let start = span.start;
-    let end = span.end;
-    if end <= start {
-        text(err, b"the end of the line");
-        return;
-    }
-    if end <= line.len() {
-        quoted(err, &line[start..end]);
+    match line.get(span.start..span.end) {
+        None | Some([]) => print(err, "the end of the line"),
+        Some(word) => quoted(err, word),
     }
 }
 
@@ -170,106 +130,39 @@ pub(crate) fn wrong_line(
     column: usize,
     expected: Expected,
 ) {
-    text(err, path);
-    text(err, b":");
-    number(err, line);
-    text(err, b":");
-    number(err, column as u64);
-    text(err, b": expected ");
-    let or = expected.or;
-    let what = expected.what;
+    let Expected { or, what } = expected;
+    let why = explained(what);
+    bytes(err, path);
+    print(err, format_args!(":{line}:{column}: expected "));
     or_word(err, or);
     padded(err, bench_file::wanted_text(what));
-    text(err, b", found ");
-    found_in(err, file, line, column);
-    explained(err, what);
-    text(err, b"\n");
-}
-
-fn found_in(err: Stderr, file: &[u8], line: u64, column: usize) {
-    let start = line_start(file, line);
-    if start <= file.len() {
-        let end = bench_words::line_end(file, start);
-        if end <= file.len() {
-            if start <= end {
-                if 0 < column {
-                    found(err, &file[start..end], column - 1);
-                }
-            }
-        }
+    print(err, ", found ");
+    if let Some(at) = column.checked_sub(1) {
+        found(err, line_in(file, line), at);
     }
+    print(err, format_args!("{why}\n"));
 }
 
 // How many processor lines omit `queue_capacity`, and what it is in them. Where none does, nothing is said.
 pub(crate) fn omitted(err: Stderr, lines: usize) {
-    if lines == 0 {
-        return;
-    }
-    text(err, b"note: processor lines without queue_capacity: ");
-    number(err, lines as u64);
-    text(err, b" (");
-    number(err, rules::OMITTED_CAPACITY);
-    text(err, b" each)\n");
-}
-
-// The name of a refusal, filled up with dots to 32 bytes.
-pub(crate) fn name(refusal: Refusal) -> [u8; 32] {
-    match refusal {
-        Refusal::TooLarge => *b"TooLarge........................",
-        Refusal::BadRow => *b"BadRow..........................",
-        Refusal::BadCoupling => *b"BadCoupling.....................",
-        Refusal::ModelNotFound => *b"ModelNotFound...................",
-        Refusal::InvalidMessage => *b"InvalidMessage..................",
-        Refusal::InvalidModelState => *b"InvalidModelState...............",
-        Refusal::NoQueueRoom => *b"NoQueueRoom.....................",
-        Refusal::NoMessageRoom => *b"NoMessageRoom...................",
-        Refusal::NoServiceTime => *b"NoServiceTime...................",
-        Refusal::BadTime => *b"BadTime.........................",
-        Refusal::ClockOverflow => *b"ClockOverflow...................",
-        Refusal::Idle => *b"Idle............................",
-        Refusal::NoOutRoom => *b"NoOutRoom.......................",
-        Refusal::BadBlock => *b"BadBlock........................",
-        Refusal::BadState => *b"BadState........................",
-    }
-}
-
-// `refused N NAME`
-pub(crate) fn refusal_of(err: Stderr, c: Course) {
-    let refusal = c.refusal;
-    text(err, b"refused ");
-    number(err, rules::number(refusal) as u64);
-    text(err, b" ");
-    padded(err, name(refusal));
-}
-
-// A time in decimal, as the listing has it.
-fn decimal(err: Stderr, time: f64) {
-    let read = decimals::micros_of(time);
-    number(err, read.whole);
-    if read.micros == 0 {
-        return;
-    }
-    let places = out::six(read.micros);
-    let end = out::significant(places);
-    if end <= 6 {
-        text(err, b".");
-        text(err, &places[0..end]);
+    let each = rules::OMITTED_CAPACITY;
+    if lines != 0 {
+        print(
+            err,
+            format_args!("note: processor lines without queue_capacity: {lines} ({each} each)\n"),
+        );
     }
 }
 
 // An action that was refused, and where the run stood. An injection is made before the step.
-pub(crate) fn refused(err: Stderr, c: Course, injection: bool, clock: f64) {
-    refusal_of(err, c);
-    if injection {
-        text(err, b" before step ");
-    } else {
-        text(err, b" in step ");
-    }
-    number(err, c.number);
-    text(err, b", clock ");
+pub(crate) fn refused(err: Stderr, refused: Refused, course: &Course, injection: bool) {
+    let place = if injection { "before" } else { "in" };
+    let number = course.number;
+    let clock = steps::clock(course.state);
     let bits = times::bits_of(clock);
-    let _ = eprint!(err; "{bits:016x}");
-    text(err, b" (");
-    decimal(err, clock);
-    text(err, b")\n");
+    let decimal = Decimal(clock);
+    print(
+        err,
+        format_args!("{refused} {place} step {number}, clock {bits:016x} ({decimal})\n"),
+    );
 }

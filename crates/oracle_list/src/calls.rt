@@ -1,8 +1,11 @@
 // The calls, each on lent words, through the functions that C calls. `asked` is a line of the list: which call it is, in the order of include/jambthrush.h (1 is post, 12 get_global_time), and its arguments. A call lays its answer into the words lent for it, its numbers and then its rows, and says how many words that are; none where there is no such call.
-ghost use Rattle.std.specs.Prelude.{◌≤◌, length};
+ghost use Rattle.std.specs.Prelude.{◌≤◌, length, IfSome};
 
 use crate::sheets;
 use times::TimeOf;
+
+// What stands for the number of a call that there is not.
+const NO_CALL: u32 = 99;
 
 // The time that has these bits.
 pub(crate) fn time_of(bits: u64) -> f64 {
@@ -14,28 +17,56 @@ pub(crate) fn time_of(bits: u64) -> f64 {
 
 // An id or a port.
 fn short(word: u64) -> u16 {
-    if 65535 < word {
-        return 0;
-    }
-    word as u16
+    u16::try_from(word).unwrap_or(0)
 }
 
 // A content or an allowance.
 fn small(word: u64) -> u32 {
-    if 4294967295 < word {
+    u32::try_from(word).unwrap_or(0)
+}
+
+// How many words so many rows have; none, if they are more than any table or answer has.
+fn words_of(rows: u64, width: usize) -> usize {
+    if 1000 < rows {
         return 0;
     }
-    word as u32
+    (rows as usize).saturating_mul(width)
+}
+
+// A table as a state begins with it: three counts, and the rows.
+#[derive(Clone, Copy)]
+struct Table<'a> {
+    models: &'a [u64],
+    connectors: &'a [u64],
+    couplings: &'a [u64],
+}
+
+fn table_of(asked: &[u64]) -> Option<Table<'_>> {
+    let rest = asked.get(4..)?;
+    let (models, rest) = rest.split_at_checked(words_of(words::word_at(asked, 1), 10))?;
+    let (connectors, rest) = rest.split_at_checked(words_of(words::word_at(asked, 2), 4))?;
+    let couplings = rest.get(..words_of(words::word_at(asked, 3), 6))?;
+    Some(Table {
+        models,
+        connectors,
+        couplings,
+    })
 }
 
 // Each of C's functions by itself: what it promises need not be carried on.
 
-fn post(models: &[u64], connectors: &[u64], couplings: &[u64], state: &mut [u64]) -> u32 {
-    host::jt_post(models, connectors, couplings, state)
+fn post(asked: &[u64], state: &mut [u64]) -> u32 {
+    match table_of(asked) {
+        Some(table) => host::jt_post(table.models, table.connectors, table.couplings, state),
+        None => NO_CALL,
+    }
 }
 
-fn put(models: &[u64], connectors: &[u64], couplings: &[u64], state: &mut [u64]) -> u32 {
-    host::jt_put(state, models, connectors, couplings)
+fn put(asked: &[u64], state: &mut [u64]) -> u32 {
+    match table_of(asked) {
+        Some(table) => host::jt_put(state, table.models, table.connectors, table.couplings),
+        None => NO_CALL,
+    }
 }
 
 fn inject_input(asked: &[u64], state: &mut [u64]) -> u32 {
@@ -62,6 +93,7 @@ fn reset_global_time(state: &mut [u64]) -> u32 {
     host::jt_reset_global_time(state)
 }
 
+// A run, on words that are lent for its rows and its report.
 fn step(state: &mut [u64], services: &[f64], rows: &mut [u64], report: &mut [u64; 3]) -> u32 {
     host::jt_step(state, services, rows, report)
 }
@@ -69,11 +101,11 @@ fn step(state: &mut [u64], services: &[f64], rows: &mut [u64], report: &mut [u64
 fn step_n(
     state: &mut [u64],
     services: &[f64],
-    count: u64,
+    asked: &[u64],
     rows: &mut [u64],
     report: &mut [u64; 3],
 ) -> u32 {
-    host::jt_step_n(state, services, count, rows, report)
+    host::jt_step_n(state, services, words::word_at(asked, 2), rows, report)
 }
 
 fn step_until(
@@ -96,140 +128,54 @@ fn messages(state: &[u64], rows: &mut [u64], count: &mut u64) -> u32 {
     host::jt_get_messages(state, rows, count)
 }
 
-// Where so many rows of so many words end; where they begin, if they are more than any table or answer has.
-fn end_of(start: usize, rows: u64, width: u64) -> usize
-    ensures { start ≤ result }
+// Where the words end that are lent for rows, behind the first `from` of an answer; None where it has no room for them.
+fn room_end(answer: &[u64], from: usize, room: u64) -> Option<usize>
+    ensures { IfSome result (λ end. (from ≤ end) × (end ≤ length answer.now)) }
 {
-    if 1000 < rows {
-        return start;
+    let end = from.checked_add(room as usize)?;
+    if answer.len() < end {
+        return None;
     }
-    if 65536 < start {
-        return start;
-    }
-    match width {
-        10 => start + rows as usize * 10,
-        6 => start + rows as usize * 6,
-        _ => start + rows as usize * 4,
-    }
+    Some(end)
 }
 
-// post or put, of a table in parts.
-fn begin(
-    call: u64,
-    models: &[u64],
-    connectors: &[u64],
-    couplings: &[u64],
-    state: &mut [u64],
-) -> u32 {
-    if call == 1 {
-        return post(models, connectors, couplings, state);
-    }
-    put(models, connectors, couplings, state)
-}
-
-// The same of a table as a state begins with it: three counts, and the rows.
-fn begin_with(call: u64, asked: &[u64], state: &mut [u64]) -> u32 {
-    let first = end_of(4, words::word_at(asked, 1), 10);
-    let second = end_of(first, words::word_at(asked, 2), 4);
-    let third = end_of(second, words::word_at(asked, 3), 6);
-    if asked.len() < third {
-        return 99;
-    }
-    begin(
-        call,
-        &asked[4..first],
-        &asked[first..second],
-        &asked[second..third],
-        state,
-    )
-}
-
-// A call that answers its number alone.
-fn change(call: u64, asked: &[u64], state: &mut [u64]) -> u32 {
-    match call {
-        1 | 2 => begin_with(call, asked, state),
-        3 => inject_input(asked, state),
-        7 => reset(state),
-        8 => reset_messages(state),
-        9 => reset_global_time(state),
-        _ => 99,
-    }
-}
-
-// The number that a run returns.
-fn ran(
-    call: u64,
-    asked: &[u64],
-    state: &mut [u64],
-    services: &[f64],
-    rows: &mut [u64],
-    report: &mut [u64; 3],
-) -> u32 {
-    match call {
-        4 => step(state, services, rows, report),
-        5 => step_n(state, services, words::word_at(asked, 2), rows, report),
-        _ => step_until(state, services, asked, rows, report),
-    }
-}
-
-// Where the words end that are lent for rows, behind the first `from` of an answer; 0 where it has no room for them.
-fn room_end(answer: &[u64], from: usize, room: u64) -> usize
-    ensures { result ≤ length answer.now }
-{
-    if answer.len() < from {
-        return 0;
-    }
-    if ((answer.len() - from) as u64) < room {
-        return 0;
-    }
-    from + room as usize
-}
-
-// The first numbers of an answer, `count` of them.
-fn head(answer: &mut [u64], numbers: [u64; 4], count: usize) -> usize {
-    if 4 < count {
-        return 0;
-    }
-    sheets::lay(answer, &numbers[0..count]);
-    count
+// The first numbers of an answer.
+fn head(answer: &mut [u64], numbers: &[u64]) -> usize {
+    sheets::lay(answer, numbers);
+    numbers.len()
 }
 
 // A run: its number, steps, rows, how it ended; the rows.
-fn run(call: u64, asked: &[u64], state: &mut [u64], services: &[f64], answer: &mut [u64]) -> usize {
-    let end = room_end(answer, 4, words::word_at(asked, 1));
-    if end < 4 {
+fn run<F: FnOnce(&mut [u64], &mut [u64; 3]) -> u32>(
+    asked: &[u64],
+    answer: &mut [u64],
+    steps: F,
+) -> usize
+    requires { F.IsAlwaysCallable steps }
+{
+    let Some(end) = room_end(answer, 4, words::word_at(asked, 1)) else {
         return 0;
-    }
+    };
     let mut report = [0u64; 3];
-    let number = ran(
-        call,
-        asked,
-        state,
-        services,
-        &mut answer[4..end],
-        &mut report,
-    );
-    let rows = report[1];
-    head(answer, [number as u64, report[0], rows, report[2]], 4);
-    end_of(4, rows, 6)
+    let number = steps(&mut answer[4..end], &mut report);
+    let [steps, rows, ended] = report;
+    head(answer, &[number as u64, steps, rows, ended]).saturating_add(words_of(rows, 6))
 }
 
 // The active messages: the number, how many they are; the rows.
 fn get_messages(asked: &[u64], state: &[u64], answer: &mut [u64]) -> usize {
-    let end = room_end(answer, 2, words::word_at(asked, 1));
-    if end < 2 {
+    let Some(end) = room_end(answer, 2, words::word_at(asked, 1)) else {
         return 0;
-    }
+    };
     let mut count = 0u64;
     let number = messages(state, &mut answer[2..end], &mut count);
-    head(answer, [number as u64, count, 0, 0], 2);
-    end_of(2, count, 6)
+    head(answer, &[number as u64, count]).saturating_add(words_of(count, 6))
 }
 
 fn get_global_time(state: &[u64], answer: &mut [u64]) -> usize {
     let mut time = 0.0;
     let number = host::jt_get_global_time(state, &mut time);
-    head(answer, [number as u64, times::bits_of(time), 0, 0], 2)
+    head(answer, &[number as u64, times::bits_of(time)])
 }
 
 // The bits of f64s, as numbers in the same order.
@@ -255,31 +201,21 @@ fn mean_end(mean: u64, said: &[u64], end: usize) -> u64 {
 fn get_status(asked: &[u64], said: &[u64], state: &[u64], answer: &mut [u64]) -> usize {
     let mut report = [0u64; 2];
     let number = status(state, short(words::word_at(asked, 1)), &mut report);
-    let what = report[0];
-    let value = report[1];
+    let [what, value] = report;
     if number != 0 {
-        return head(answer, [number as u64, 0, 0, 0], 1);
+        return head(answer, &[number as u64]);
     }
     if what != 2 {
-        return head(answer, [0, what, value, 0], 3);
+        return head(answer, &[0, what, value]);
     }
     let least = mean_end(value, said, 2);
     let most = mean_end(value, said, 3);
-    head(answer, [0, what, least, most], 4)
+    head(answer, &[0, what, least, most])
 }
 
-// A question, which leaves the state as it is.
-fn ask(call: u64, asked: &[u64], said: &[u64], state: &[u64], answer: &mut [u64]) -> usize {
-    match call {
-        10 => get_status(asked, said, state, answer),
-        11 => get_messages(asked, state, answer),
-        _ => get_global_time(state, answer),
-    }
-}
-
-fn alter(call: u64, asked: &[u64], state: &mut [u64], answer: &mut [u64]) -> usize {
-    let number = change(call, asked, state);
-    head(answer, [number as u64, 0, 0, 0], 1)
+// A call that answers its number alone.
+fn alone(answer: &mut [u64], number: u32) -> usize {
+    head(answer, &[number as u64])
 }
 
 // Makes a call; `said` is what the oracle answered.
@@ -290,10 +226,25 @@ pub(crate) fn make(
     services: &[f64],
     answer: &mut [u64],
 ) -> usize {
-    let call = words::word_at(asked, 0);
-    match call {
-        4..=6 => run(call, asked, state, services, answer),
-        10..=12 => ask(call, asked, said, state, answer),
-        _ => alter(call, asked, state, answer),
+    match words::word_at(asked, 0) {
+        1 => alone(answer, post(asked, state)),
+        2 => alone(answer, put(asked, state)),
+        3 => alone(answer, inject_input(asked, state)),
+        4 => run(asked, answer, |rows, report| {
+            step(state, services, rows, report)
+        }),
+        5 => run(asked, answer, |rows, report| {
+            step_n(state, services, asked, rows, report)
+        }),
+        6 => run(asked, answer, |rows, report| {
+            step_until(state, services, asked, rows, report)
+        }),
+        7 => alone(answer, reset(state)),
+        8 => alone(answer, reset_messages(state)),
+        9 => alone(answer, reset_global_time(state)),
+        10 => get_status(asked, said, state, answer),
+        11 => get_messages(asked, state, answer),
+        12 => get_global_time(state, answer),
+        _ => alone(answer, NO_CALL),
     }
 }

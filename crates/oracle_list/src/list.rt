@@ -1,108 +1,71 @@
 // The list, read piece by piece.
+ghost use Rattle.std.specs.Prelude.{◌≤◌, ◌<◌, length, IfOk, IfSome};
+
 use crate::case::Replayed;
 use crate::{case, say};
 use std::io;
 use std::io::Read;
 
-// How many cases and calls were replayed, how many cases differ, and where the last of them ends in its piece.
-#[derive(Clone, Copy)]
+// How many cases and calls were replayed, and how many cases differ.
+#[derive(Clone, Copy, Default)]
 pub(crate) struct Total {
     pub(crate) cases: u64,
     pub(crate) calls: u64,
     pub(crate) differ: u64,
-    pub(crate) used: usize,
 }
 
-fn sum(a: u64, b: u64) -> u64 {
-    if u64::MAX - a < b {
-        return u64::MAX;
+impl Total {
+    // One case more.
+    fn add(&mut self, replayed: Replayed) {
+        self.cases = self.cases.saturating_add(1);
+        self.calls = self.calls.saturating_add(replayed.calls);
+        self.differ = self.differ.saturating_add(u64::from(replayed.differs));
     }
-    a + b
 }
 
 // Reads on behind the bytes that are kept. Where they now end.
 fn read_on(reader: &mut impl Read, text: &mut [u8], kept: usize) -> io::Result<usize> {
     let mut end = kept;
+    // kept: a turn goes on by as many bytes as the system gives, so no range and no iterator counts them
     while end < text.len() {
-        let got = reader.read(&mut text[end..])?;
-        if got == 0 {
-            return Ok(end);
+        match reader.read(&mut text[end..])? {
+            0 => return Ok(end),
+            more => end += more,
         }
-        end += got;
     }
     Ok(end)
 }
 
-// Moves the bytes from `from` to before `end` to the front. How many they are.
-fn keep(text: &mut [u8], from: usize, end: usize) -> usize {
-    let mut to = 0;
-    let mut at = from;
-    while at < end {
-        if text.len() <= at {
-            return to;
-        }
-        text[to] = text[at];
-        to += 1;
-        at += 1;
+// The lines before the first empty one, and the text behind that; None where there is none.
+fn split_case(text: &[u8]) -> Option<(&[u8], &[u8])>
+    ensures { IfSome result (λ parts. length parts.1.now < length text.now) }
+{
+    if let [b'\n', rest @ ..] = text {
+        return Some((&[], rest));
     }
-    to
-}
-
-// The newline of the first empty line; the text's length where there is none.
-fn case_end(text: &[u8], from: usize) -> usize {
-    let mut at = from;
-    let mut is_empty = true;
-    while at < text.len() {
-        let is_end = text[at] == b'\n';
-        if is_end && is_empty {
-            return at;
-        }
-        is_empty = is_end;
-        at += 1;
-    }
-    at
-}
-
-// One case more, which ends there.
-fn added(total: Total, replayed: Replayed, used: usize) -> Total {
-    let differs = if replayed.differs { 1 } else { 0 };
-    Total {
-        cases: sum(total.cases, 1),
-        calls: sum(total.calls, replayed.calls),
-        differ: sum(total.differ, differs),
-        used,
-    }
+    let end = text
+        .windows(2)
+        .position(|pair| matches!(pair, [b'\n', b'\n']))?;
+    Some((&text[..end + 1], &text[end + 2..]))
 }
 
 // What begins with `#` is no case.
 fn is_note(text: &[u8]) -> bool {
-    if text.len() == 0 {
-        return true;
-    }
-    text[0] == b'#'
+    matches!(text, [] | [b'#', ..])
 }
 
-// The cases that stand whole in the text.
-fn cases(rt: &impl Print, text: &[u8], before: Total) -> io::Result<Total> {
-    let mut total = before;
-    total.used = 0;
-    let mut at = 0;
-    while at < text.len() {
-        let end = case_end(text, at);
-        if text.len() <= end {
-            return Ok(total);
+// The cases that stand whole in the text; how many bytes are behind them.
+fn cases(rt: &impl Print, text: &[u8], total: &mut Total) -> io::Result<usize>
+    ensures { IfOk result (λ rest. rest ≤ length text.now) }
+{
+    let mut rest = text;
+    while let Some((case, behind)) = split_case(rest) {
+        if !is_note(case) {
+            total.add(case::replay(rt, case)?);
         }
-        if end < at {
-            return Ok(total);
-        }
-        if is_note(&text[at..end]) {
-            total.used = end + 1;
-        } else {
-            total = added(total, case::replay(rt, &text[at..end])?, end + 1);
-        }
-        at = end + 1;
+        rest = behind;
     }
-    Ok(total)
+    Ok(rest.len())
 }
 
 // All cases. A list that ends within a case is cut short.
@@ -111,28 +74,21 @@ pub(crate) fn replay(
     reader: &mut impl Read,
     text: &mut [u8],
 ) -> io::Result<Total> {
-    let mut total = Total {
-        cases: 0,
-        calls: 0,
-        differ: 0,
-        used: 0,
-    };
+    let mut total = Total::default();
     let mut kept = 0;
-    let mut turns: u64 = 65536;
-    while 0 < turns {
+    for _ in 0..65536 {
         let end = read_on(reader, text, kept)?;
-        if text.len() < end {
+        let Some(read) = text.get(..end) else {
             return Ok(total);
-        }
+        };
         if end <= kept {
             if kept != 0 {
                 say::cut_short(rt)?;
             }
             return Ok(total);
         }
-        total = cases(rt, &text[0..end], total)?;
-        kept = keep(text, total.used, end);
-        turns -= 1;
+        kept = cases(rt, read, &mut total)?;
+        text.copy_within(end - kept..end, 0);
     }
     Ok(total)
 }

@@ -1,47 +1,30 @@
 // Sheets of words: filled and changed.
 
-fn clear(words: &mut [u64]) {
-    let mut at = 0;
-    while at < words.len() {
-        words[at] = 0;
-        at += 1;
-    }
-}
-
-// Words laid at a sheet's start.
+// Words laid at a sheet's start, as many as it has room for.
 pub(crate) fn lay(sheet: &mut [u64], words: &[u64]) {
-    let mut at = 0;
-    while at < words.len() {
-        if sheet.len() <= at {
-            return;
-        }
-        sheet[at] = words[at];
-        at += 1;
+    for (place, word) in sheet.iter_mut().zip(words) {
+        *place = *word;
     }
 }
 
 // A state that ends there and begins with a table, which stands behind a word; all else in it is 0.
 pub(crate) fn begin(sheet: &mut [u64], table: &[u64], end: usize) {
-    if sheet.len() < end {
-        return;
+    if let [_, table @ ..] = table
+        && end <= sheet.len()
+    {
+        sheet[..end].fill(0);
+        lay(sheet, table);
     }
-    if table.len() == 0 {
-        return;
-    }
-    clear(&mut sheet[0..end]);
-    lay(sheet, &table[1..]);
 }
 
 // Places and their new words, one after the other. Whether the sheet has all these places.
 pub(crate) fn change(sheet: &mut [u64], pairs: &[u64]) -> bool {
-    let mut at = 0;
-    while 2 <= pairs.len() - at {
-        let place = pairs[at] as usize;
-        if sheet.len() <= place {
-            return false;
+    let (pairs, rest) = pairs.as_chunks::<2>();
+    for [place, word] in pairs {
+        match sheet.get_mut(*place as usize) {
+            Some(place) => *place = *word,
+            None => return false,
         }
-        sheet[place] = pairs[at + 1];
-        at += 2;
     }
-    at == pairs.len()
+    rest.is_empty()
 }
