@@ -1,6 +1,6 @@
 // The batcher.
 use crate::{Event, say, values};
-use atoms::{BatcherGone, BatcherState, BatcherTaken};
+use atoms::{BatcherState, Handed, Taken};
 use rules::{Batcher, BatcherPhase};
 use std::io;
 use words::word_at;
@@ -33,12 +33,12 @@ fn say_state(rt: &impl Print, state: BatcherState) -> io::Result<()> {
     say::state(rt, name(state.phase), state.timer, state.held)
 }
 
-fn say_taken(rt: &impl Print, taken: BatcherTaken) -> io::Result<()> {
+fn say_taken(rt: &impl Print, taken: Handed<BatcherState, Taken>) -> io::Result<()> {
     say::taken(rt, taken.answer)?;
     say_state(rt, taken.next)
 }
 
-fn say_gone(rt: &impl Print, gone: BatcherGone) -> io::Result<()> {
+fn say_gone(rt: &impl Print, gone: Handed<BatcherState, u64>) -> io::Result<()> {
     say::gone(rt, gone.answer)?;
     say_state(rt, gone.next)
 }

@@ -1,6 +1,6 @@
 // The processor.
 use crate::{Event, say, values};
-use atoms::{ProcessorGone, ProcessorState, ProcessorTaken};
+use atoms::{ProcessorState, Served, Taken};
 use rules::{Processor, ProcessorPhase};
 use std::io;
 use words::word_at;
@@ -33,12 +33,12 @@ fn say_state(rt: &impl Print, state: ProcessorState, place: u64) -> io::Result<(
     print!(rt; ", place {place}")
 }
 
-fn say_taken(rt: &impl Print, taken: ProcessorTaken) -> io::Result<()> {
+fn say_taken(rt: &impl Print, taken: Served<Taken>) -> io::Result<()> {
     say::taken(rt, taken.answer)?;
     say_state(rt, taken.next, taken.place)
 }
 
-fn say_gone(rt: &impl Print, gone: ProcessorGone) -> io::Result<()> {
+fn say_gone(rt: &impl Print, gone: Served<u64>) -> io::Result<()> {
     say::gone(rt, gone.answer)?;
     say_state(rt, gone.next, gone.place)
 }

@@ -1,6 +1,6 @@
 // Queues in lent words, and the search for a row. The words stand at the end of the line.
 use std::io;
-use words::{Cell, Found, Key, word_at};
+use words::{Cell, word_at};
 
 // The four words of a queue.
 fn queue_of(asked: &[u64]) -> [u64; 4] {
@@ -40,13 +40,13 @@ fn cell_of(at: u64, value: u64) -> Cell {
     }
 }
 
-fn key_of(asked: &[u64]) -> Key {
-    Key {
-        first: cell_of(word_at(asked, 4), word_at(asked, 5)),
-        second: cell_of(word_at(asked, 6), word_at(asked, 7)),
-        third: cell_of(word_at(asked, 8), word_at(asked, 9)),
-        fourth: cell_of(word_at(asked, 10), word_at(asked, 11)),
-    }
+fn key_of(asked: &[u64]) -> [Cell; 4] {
+    [
+        cell_of(word_at(asked, 4), word_at(asked, 5)),
+        cell_of(word_at(asked, 6), word_at(asked, 7)),
+        cell_of(word_at(asked, 8), word_at(asked, 9)),
+        cell_of(word_at(asked, 10), word_at(asked, 11)),
+    ]
 }
 
 pub(crate) fn next_row(rt: &impl Print, asked: &[u64]) -> io::Result<()> {
@@ -56,9 +56,9 @@ pub(crate) fn next_row(rt: &impl Print, asked: &[u64]) -> io::Result<()> {
     let width = word_at(asked, 1) as usize;
     let from = word_at(asked, 2) as usize;
     let rows = word_at(asked, 3) as usize;
-    match words::next_row(words, width, from, rows, key_of(asked)) {
-        Found::At(row) => print!(rt; ": row {row}"),
-        Found::Nothing => rt.print(": nothing"),
+    match words::next_row(words, width, from, rows, &key_of(asked)) {
+        Some(row) => print!(rt; ": row {row}"),
+        None => rt.print(": nothing"),
     }
 }
 

@@ -1,7 +1,7 @@
 // What the readers say of a row.
 use rules::{Batcher, Metric, Processor, Stopwatch};
 use std::io;
-use table::{Kind, Parent};
+use table::Kind;
 use words::word_at;
 
 fn say_processor(rt: &impl Print, row: Processor) -> io::Result<()> {
@@ -43,20 +43,20 @@ fn say_stopwatch(rt: &impl Print, row: Stopwatch) -> io::Result<()> {
     print!(rt; "; stopwatch, ports {start} {stop}, ports {ask} {output}, {metric}")
 }
 
-fn say_kind(rt: &impl Print, kind: Kind) -> io::Result<()> {
+fn say_kind(rt: &impl Print, kind: Option<Kind>) -> io::Result<()> {
     match kind {
-        Kind::Processor(row) => say_processor(rt, row),
-        Kind::Batcher(row) => say_batcher(rt, row),
-        Kind::Stopwatch(row) => say_stopwatch(rt, row),
-        Kind::Coupled => rt.print("; Coupled"),
-        Kind::Broken => rt.print("; broken"),
+        Some(Kind::Processor(row)) => say_processor(rt, row),
+        Some(Kind::Batcher(row)) => say_batcher(rt, row),
+        Some(Kind::Stopwatch(row)) => say_stopwatch(rt, row),
+        Some(Kind::Coupled) => rt.print("; Coupled"),
+        None => rt.print("; broken"),
     }
 }
 
-fn say_parent(rt: &impl Print, parent: Parent) -> io::Result<()> {
+fn say_parent(rt: &impl Print, parent: Option<u64>) -> io::Result<()> {
     match parent {
-        Parent::Of(id) => print!(rt; "; parent {id}"),
-        Parent::Nobody => rt.print("; no parent"),
+        Some(id) => print!(rt; "; parent {id}"),
+        None => rt.print("; no parent"),
     }
 }
 

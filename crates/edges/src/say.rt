@@ -1,8 +1,8 @@
 // What the cases write to standard output.
-use atoms::{Gone, Taken};
+use atoms::Taken;
 use rules::Refusal;
 use std::io;
-use table::Verdict;
+use table::BadTable;
 
 fn name(refusal: Refusal) -> &'static str {
     match refusal {
@@ -32,22 +32,22 @@ pub(crate) fn refusal(rt: &impl Print, refusal: Refusal) -> io::Result<()> {
 }
 
 // What became of what came.
-pub(crate) fn taken(rt: &impl Print, taken: Taken) -> io::Result<()> {
+pub(crate) fn taken(rt: &impl Print, taken: Result<Taken, Refusal>) -> io::Result<()> {
     match taken {
-        Taken::Started => rt.print(": started"),
-        Taken::Kept => rt.print(": kept"),
-        Taken::Dropped => rt.print(": dropped"),
-        Taken::Marked => rt.print(": marked"),
-        Taken::Asked => rt.print(": asked"),
-        Taken::Refused(why) => refusal(rt, why),
+        Ok(Taken::Started) => rt.print(": started"),
+        Ok(Taken::Kept) => rt.print(": kept"),
+        Ok(Taken::Dropped) => rt.print(": dropped"),
+        Ok(Taken::Marked) => rt.print(": marked"),
+        Ok(Taken::Asked) => rt.print(": asked"),
+        Err(why) => refusal(rt, why),
     }
 }
 
 // How many jobs go out.
-pub(crate) fn gone(rt: &impl Print, answer: Gone) -> io::Result<()> {
+pub(crate) fn gone(rt: &impl Print, answer: Result<u64, Refusal>) -> io::Result<()> {
     match answer {
-        Gone::Out(count) => print!(rt; ": {count} out"),
-        Gone::Refused(why) => refusal(rt, why),
+        Ok(count) => print!(rt; ": {count} out"),
+        Err(why) => refusal(rt, why),
     }
 }
 
@@ -64,19 +64,19 @@ fn refused(rt: &impl Print, refusal: Refusal, what: &str, row: usize) -> io::Res
 }
 
 // What intake says of a table.
-pub(crate) fn verdict(rt: &impl Print, verdict: Verdict) -> io::Result<()> {
+pub(crate) fn verdict(rt: &impl Print, verdict: Result<(), BadTable>) -> io::Result<()> {
     match verdict {
-        Verdict::TooLarge => refusal(rt, Refusal::TooLarge),
-        Verdict::BadRow(row) => refused(rt, Refusal::BadRow, "BadRow, row", row),
-        Verdict::BadConnector(row) => {
+        Err(BadTable::TooLarge) => refusal(rt, Refusal::TooLarge),
+        Err(BadTable::Row(row)) => refused(rt, Refusal::BadRow, "BadRow, row", row),
+        Err(BadTable::Connector(row)) => {
             refused(rt, Refusal::BadCoupling, "BadCoupling, connector", row)
         }
-        Verdict::BadCoupling(row) => refused(
+        Err(BadTable::Coupling(row)) => refused(
             rt,
             Refusal::BadCoupling,
             "BadCoupling, coupling",
             row,
         ),
-        Verdict::Passed => rt.print(": passed"),
+        Ok(()) => rt.print(": passed"),
     }
 }

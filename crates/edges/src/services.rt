@@ -1,6 +1,5 @@
 // The service list.
 use crate::{say, values};
-use atoms::Service;
 use std::io;
 use words::word_at;
 
@@ -12,8 +11,8 @@ fn found(rt: &impl Print, time: f64, next: u64) -> io::Result<()> {
 // What stands at a place of the list.
 fn read(rt: &impl Print, services: &[f64], place: u64) -> io::Result<()> {
     match atoms::service_time(services, place) {
-        Service::Time(time, next) => found(rt, time, next),
-        Service::Refused(why) => say::refusal(rt, why),
+        Ok((time, next)) => found(rt, time, next),
+        Err(why) => say::refusal(rt, why),
     }
 }
 

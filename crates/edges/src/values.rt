@@ -1,11 +1,10 @@
 // A case's numbers as what they stand for.
-use times::TimerOf;
 
 // The f64 of these bits.
 pub(crate) fn float(bits: u64) -> f64 {
     match times::timer_of_bits(bits) {
-        TimerOf::Timer(timer) => timer,
-        TimerOf::NoTimer => other(bits),
+        Some(timer) => timer,
+        None => other(bits),
     }
 }
 

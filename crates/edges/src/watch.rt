@@ -1,8 +1,7 @@
 // The stopwatch, on words from a place of the sheet to another.
 use crate::sheet::Sheet;
 use crate::{Event, say, sheet, values};
-use atoms::{Named, StopwatchGone, StopwatchState, StopwatchTaken};
-use marks::MeanOf;
+use atoms::{Handed, StopwatchState, Taken};
 use rules::{Metric, Stopwatch, StopwatchPhase};
 use std::io;
 use words::word_at;
@@ -60,16 +59,16 @@ fn say_state(rt: &impl Print, state: StopwatchState) -> io::Result<()> {
     say::state(rt, name(state.phase), state.timer, state.held)
 }
 
-fn say_taken(rt: &impl Print, taken: StopwatchTaken) -> io::Result<()> {
+fn say_taken(rt: &impl Print, taken: Handed<StopwatchState, Taken>) -> io::Result<()> {
     say::taken(rt, taken.answer)?;
     say_state(rt, taken.next)
 }
 
-fn say_gone(rt: &impl Print, gone: StopwatchGone) -> io::Result<()> {
+fn say_gone(rt: &impl Print, gone: Handed<StopwatchState, Option<u64>>) -> io::Result<()> {
     match gone.answer {
-        Named::Job(name) => print!(rt; ": job {name}")?,
-        Named::Nothing => rt.print(": nothing")?,
-        Named::Refused(why) => say::refusal(rt, why)?,
+        Ok(Some(name)) => print!(rt; ": job {name}")?,
+        Ok(None) => rt.print(": nothing")?,
+        Err(why) => say::refusal(rt, why)?,
     }
     say_state(rt, gone.next)
 }
@@ -90,12 +89,12 @@ fn on(rt: &impl Print, event: Event, asked: &[u64], words: &mut [u64]) -> io::Re
 
 fn mean(rt: &impl Print, asked: &[u64], words: &[u64]) -> io::Result<()> {
     match marks::mean(words, word_at(asked, 3)) {
-        MeanOf::Mean(mean) => {
+        Ok(Some(mean)) => {
             let mean = times::bits_of(mean);
             print!(rt; ": {mean:016x}")
         }
-        MeanOf::Nothing => rt.print(": none"),
-        MeanOf::CutShort => rt.print(": cut short"),
+        Ok(None) => rt.print(": none"),
+        Err(_) => rt.print(": cut short"),
     }
 }
 

@@ -3,7 +3,6 @@ ghost use Rattle.std.specs.Prelude.{◌≤◌, length, IfOk};
 
 use crate::course::Settings;
 use crate::say;
-use bench_words::Number;
 use std::env::{Env, FillError};
 use std::fs::File;
 use std::io::{ErrorKind, Read, Seek, SeekFrom, Stdin};
@@ -110,8 +109,5 @@ pub(crate) fn settings(rt: HostRuntime, rows: bool) -> Settings {
 // The block from which on a trace is read: the third argument, which the command has looked at.
 pub(crate) fn first_block(rt: HostRuntime) -> u64 {
     let mut room = [0u8; 20];
-    match bench_words::number_of(argument(rt, 3, &mut room), u64::MAX) {
-        Number::Is(number) => number,
-        Number::Not => 0,
-    }
+    bench_words::number_of(argument(rt, 3, &mut room), u64::MAX).unwrap_or(0)
 }

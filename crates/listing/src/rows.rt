@@ -6,7 +6,7 @@ use crate::{input, room, say, steps};
 use rules::Refusal;
 use std::io;
 use std::io::Stderr;
-use trace_blocks::{BLOCK_BYTES, Judged};
+use trace_blocks::BLOCK_BYTES;
 
 // More blocks than any file has.
 const MOST_BLOCKS: u64 = 0x20_0000_0000_0000;
@@ -115,8 +115,8 @@ impl Blocks<'_, '_> {
 
     fn block(&mut self, bytes: &[u8], ends: bool) {
         match trace_blocks::judge_block(trace_blocks::SIX, self.number, ends, bytes) {
-            Judged::Rows(count) => self.good(bytes, count),
-            Judged::Bad => self.bad(bytes, ends),
+            Some(count) => self.good(bytes, count),
+            None => self.bad(bytes, ends),
         }
     }
 

@@ -3,10 +3,8 @@ use crate::course::{Bench, Course, Settings, Status};
 use crate::out::{Listing, Refused};
 use crate::trace::Trace;
 use crate::{input, room, say, trace, warn, why};
-use bench_file::{Page, Reading};
-use memory::Answer;
+use bench_file::{Misread, Page};
 use rules::{Message, Refusal};
-use times::TimeOf;
 
 // What an action's row asks for, by its first word.
 #[derive(Clone, Copy)]
@@ -47,15 +45,17 @@ pub(crate) fn file(rt: HostRuntime, path: &[u8], text: &[u8]) -> Status {
         &mut actions,
     );
     match reading {
-        Reading::Wrong {
-            line,
-            column,
-            expected,
-        } => {
+        Err(
+            Misread {
+                line,
+                column,
+                expected,
+            },
+        ) => {
             say::wrong_line(rt.stderr(), path, text, line, column, expected);
             Status::Wrong
         }
-        Reading::Read(counts) => {
+        Ok(counts) => {
             let bench = Bench {
                 path,
                 text,
@@ -74,8 +74,8 @@ pub(crate) fn file(rt: HostRuntime, path: &[u8], text: &[u8]) -> Status {
 fn post(rt: HostRuntime, bench: Bench, settings: Settings) -> Status {
     let mut state: room::State = room::filled(0);
     match simulation::post(bench.models, bench.connectors, bench.couplings, &mut state) {
-        Answer::Refused(refusal) => refused_table(rt, bench, refusal),
-        Answer::Done => begin(rt, bench, settings, &mut state),
+        Err(refusal) => refused_table(rt, bench, refusal),
+        Ok(()) => begin(rt, bench, settings, &mut state),
     }
 }
 
@@ -186,7 +186,7 @@ impl Course<'_> {
     }
 
     fn inject(&mut self, message: Message) {
-        if let Answer::Refused(refusal) = simulation::inject_input(self.state, message) {
+        if let Err(refusal) = simulation::inject_input(self.state, message) {
             self.listing.status = Status::Refused(refusal);
         }
     }
@@ -218,8 +218,8 @@ impl Course<'_> {
 // The time that has these bits. What is no time stays none: infinity stands for all of that, and every call refuses them alike.
 fn time_of(bits: u64) -> f64 {
     match times::time_of_bits(bits) {
-        TimeOf::Time(time) => time,
-        TimeOf::Bad => times::never(),
+        Some(time) => time,
+        None => times::never(),
     }
 }
 

@@ -3,23 +3,15 @@ use crate::course::{Course, Status};
 use crate::out::{Decimal, Listing};
 use engine::{End, Report};
 use rules::Refusal;
-use simulation::Clock;
-use times::TimeOf;
 
 // The clock. A state that is no state has none, and then the step was refused.
 pub(crate) fn clock(state: &[u64]) -> f64 {
-    match simulation::get_global_time(state) {
-        Clock::Time(time) => time,
-        Clock::Refused(_) => 0.0,
-    }
+    simulation::get_global_time(state).unwrap_or(0.0)
 }
 
 // How many messages are active; room is lent for them.
 fn active(state: &[u64], room: &mut [u64]) -> usize {
-    match simulation::get_messages(state, room) {
-        simulation::Listing::Count(count) => count,
-        simulation::Listing::Refused(_) => 0,
-    }
+    simulation::get_messages(state, room).unwrap_or(0)
 }
 
 // The first of these rows of six words, so many, with their times in decimal too where that is asked for.
@@ -43,11 +35,11 @@ fn print_row(listing: &mut Listing, row: &[u64; 6], decimal: bool) {
 // A row of a trace may have any bits there.
 fn print_decimal(listing: &mut Listing, bits: u64) {
     match times::time_of_bits(bits) {
-        TimeOf::Time(time) => {
+        Some(time) => {
             let time = Decimal(time);
             listing.print(format_args!(" {time}"));
         }
-        TimeOf::Bad => listing.print(" -"),
+        None => listing.print(" -"),
     }
 }
 

@@ -6,7 +6,6 @@ use std::fs::File;
 use std::io;
 use std::io::{ErrorKind, Write};
 use trace_blocks::BLOCK_BYTES;
-use trace_files::Written;
 
 // The words of a full block: ten rows of six.
 const FULL: usize = 60;
@@ -121,12 +120,12 @@ impl Course<'_> {
             return;
         };
         match trace_files::write_trace(rows, blocks, &mut room) {
-            Written::Bytes(length) => {
+            Ok(length) => {
                 if let Some(bytes) = room.get(..length) {
                     self.write(bytes, file);
                 }
             }
-            Written::Refused(_) => {
+            Err(_) => {
                 let err = self.listing.rt.stderr();
                 say::print(err, "jambthrush: a trace has at most 4294967296 rows\n");
                 self.listing.status = Status::Cut;

@@ -3,7 +3,7 @@ use crate::course::Bench;
 use crate::run::Action;
 use crate::{run, say};
 use bench_file::Page;
-use hints::{Known, Side};
+use hints::{BadEnd, Side};
 use std::io::Stderr;
 use table::Kind;
 
@@ -25,13 +25,13 @@ fn begin(err: Stderr, bench: Bench, page: Page, row: usize) {
 
 impl EndWarnings<'_> {
     // The warning on an end of a row.
-    fn end(&mut self, page: Page, row: usize, id: u64, port: u64, known: Known) {
-        if let Known::Known = known {
+    fn end(&mut self, page: Page, row: usize, id: u64, port: u64, known: Result<(), BadEnd>) {
+        let Err(bad) = known else {
             return;
-        }
+        };
         if self.count < MOST {
             begin(self.err, self.bench, page, row);
-            unknown(self.err, id, port, known);
+            unknown(self.err, id, port, bad);
         }
         self.count = self.count.saturating_add(1);
     }
@@ -85,14 +85,13 @@ impl EndWarnings<'_> {
     }
 }
 
-fn unknown(err: Stderr, id: u64, port: u64, known: Known) {
-    match known {
-        Known::Known => {}
-        Known::NoModel => say::print(
+fn unknown(err: Stderr, id: u64, port: u64, bad: BadEnd) {
+    match bad {
+        BadEnd::NoModel => say::print(
             err,
             format_args!("there is no model {id} to be found there\n"),
         ),
-        Known::NoPort => say::print(
+        BadEnd::NoPort => say::print(
             err,
             format_args!("model {id} has no port {port} for this\n"),
         ),
@@ -154,13 +153,13 @@ fn held_by(err: Stderr, bench: Bench, action: usize, row: usize, head: [u64; 4],
     let id = table::id_at(bench.models, row);
     let [_, _, held, from] = head;
     let (count, what) = match table::kind_at(bench.models, row) {
-        Kind::Processor(_) | Kind::Batcher(_) => (held as usize, "jobs"),
-        Kind::Coupled => (held as usize, "parked messages"),
-        Kind::Stopwatch(_) => {
+        Some(Kind::Processor(_) | Kind::Batcher(_)) => (held as usize, "jobs"),
+        Some(Kind::Coupled) => (held as usize, "parked messages"),
+        Some(Kind::Stopwatch(_)) => {
             let names = changing.get(from as usize..).unwrap_or(&[]);
             (incomplete(names, held), "jobs without a start or a stop")
         }
-        Kind::Broken => return,
+        None => return,
     };
     still(err, bench, action, id, count, what);
 }

@@ -4,41 +4,48 @@ use crate::say;
 use bench_file::Page;
 use reasons::Reason;
 use std::io::Stderr;
-use table::Verdict;
+use table::BadTable;
 
 // `FILE:LINE: ` of the row that a verdict names, or of the first that is too many.
-pub(crate) fn place(err: Stderr, bench: Bench, verdict: Verdict, reason: Reason) {
+pub(crate) fn place(
+    err: Stderr,
+    bench: Bench,
+    verdict: Result<(), BadTable>,
+    reason: Option<Reason>,
+) {
     match verdict {
-        Verdict::BadRow(row) => say::place(err, bench, Page::Models, row),
-        Verdict::BadConnector(row) => say::place(err, bench, Page::Connectors, row),
-        Verdict::BadCoupling(row) => say::place(err, bench, Page::Couplings, row),
-        Verdict::TooLarge => one_too_many(err, bench, reason),
-        Verdict::Passed => {}
+        Err(BadTable::Row(row)) => say::place(err, bench, Page::Models, row),
+        Err(BadTable::Connector(row)) => say::place(err, bench, Page::Connectors, row),
+        Err(BadTable::Coupling(row)) => say::place(err, bench, Page::Couplings, row),
+        Err(BadTable::TooLarge) => one_too_many(err, bench, reason),
+        Ok(()) => {}
     }
 }
 
 // The first row that a table has no room for.
-fn one_too_many(err: Stderr, bench: Bench, reason: Reason) {
+fn one_too_many(err: Stderr, bench: Bench, reason: Option<Reason>) {
     match reason {
-        Reason::ManyModels => say::place(err, bench, Page::Models, 64),
-        Reason::ManyConnectors => say::place(err, bench, Page::Connectors, 256),
+        Some(Reason::ManyModels) => say::place(err, bench, Page::Models, 64),
+        Some(Reason::ManyConnectors) => say::place(err, bench, Page::Connectors, 256),
         _ => say::place(err, bench, Page::Couplings, 256),
     }
 }
 
 // The rule that is broken.
-pub(crate) fn rule(err: Stderr, text: &[u8], reason: Reason) {
-    if let Reason::IdTaken(row) = reason {
-        let line = bench_file::line_of(text, Page::Models, row);
-        return say::print(err, format_args!("the id stands in line {line} already"));
+pub(crate) fn rule(err: Stderr, text: &[u8], reason: Option<Reason>) {
+    match reason {
+        Some(Reason::IdTaken(row)) => {
+            let line = bench_file::line_of(text, Page::Models, row);
+            say::print(err, format_args!("the id stands in line {line} already"));
+        }
+        Some(reason) => say::print(err, words(reason)),
+        None => {}
     }
-    say::print(err, words(reason));
 }
 
 // The reader lets no row be cut short, no kind be unknown and no id or port be too large; the words are there for the sake of all reasons.
 fn words(reason: Reason) -> &'static str {
     match reason {
-        Reason::NoReason => "",
         Reason::ManyModels => "there are more than 64 models",
         Reason::ManyConnectors => "there are more than 256 connectors",
         Reason::ManyCouplings => "there are more than 256 couplings",

@@ -7,9 +7,9 @@ use bench_words::Span;
 
 // The numbers that a line begins with, and what stands behind them.
 #[derive(Clone, Copy)]
-pub struct Line<'a> {
-    pub numbers: &'a [u64],
-    pub rest: &'a [u8],
+pub struct Line<'l, 'n> {
+    pub numbers: &'n [u64],
+    pub rest: &'l [u8],
 }
 
 // Where the next word stands, from a place on.
@@ -29,7 +29,7 @@ fn number(word: &[u8]) -> Option<u64> {
 }
 
 // Lays numbers into the room, up to its end, the line's, or a word that is no number.
-pub fn read<'a>(line: &'a [u8], room: &'a mut [u64]) -> Line<'a>
+pub fn read<'l, 'n>(line: &'l [u8], room: &'n mut [u64]) -> Line<'l, 'n>
     ensures room { length result.numbers.now ≤ length room.old }
     ensures rest { result.rest.now ≡ drop (length line.now - length result.rest.now) line.now }
 {

@@ -2,7 +2,6 @@
 ghost use Rattle.std.specs.Prelude.{◌≤◌, length, IfSome};
 
 use crate::sheets;
-use times::TimeOf;
 
 // What stands for the number of a call that there is not.
 const NO_CALL: u32 = 99;
@@ -10,8 +9,8 @@ const NO_CALL: u32 = 99;
 // The time that has these bits.
 pub(crate) fn time_of(bits: u64) -> f64 {
     match times::time_of_bits(bits) {
-        TimeOf::Time(time) => time,
-        TimeOf::Bad => times::never(),
+        Some(time) => time,
+        None => times::never(),
     }
 }
 

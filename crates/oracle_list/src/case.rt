@@ -2,7 +2,7 @@
 ghost use Rattle.std.specs.Prelude.{◌≤◌, ◌-◌, length, IfOk, IfSome};
 
 use crate::{calls, lines, say, sheets};
-use judging::Seen;
+use judging::Differs;
 use std::io;
 
 #[derive(Clone, Copy)]
@@ -31,25 +31,22 @@ impl Case<'_> {
     }
 
     // The state after a call whose answer is the oracle's, which then says what has changed.
-    fn after(&mut self, asked: &[u64], said: &[u64], count: usize) -> Seen {
+    fn after(&mut self, asked: &[u64], said: &[u64], count: usize) -> Result<(), Differs> {
         let used = self.begin(asked, said, count);
         let state = &mut *self.state;
         let told = &mut *self.told;
         match said.get(used..) {
             Some(changes) if sheets::change(told, changes) => judging::state(state, told),
-            _ => Seen::Wrong,
+            _ => Err(Differs::Wrong),
         }
     }
 
     // Makes a call, and compares its answer and the whole state after it with the oracle's.
-    fn make(&mut self, asked: &[u64], said: &[u64]) -> Seen {
+    fn make(&mut self, asked: &[u64], said: &[u64]) -> Result<(), Differs> {
         let mut answer = [judging::BEFORE; 4096];
         let count = calls::make(asked, said, self.state, self.services, &mut answer);
-        let seen = judging::answer(&answer, count, said);
-        if judging::is_same(seen) {
-            return self.after(asked, said, count);
-        }
-        seen
+        judging::answer(&answer, count, said)?;
+        self.after(asked, said, count)
     }
 
     // The first call of a text: its line, and the line of its answer. The text behind them; None where it differs, and then it was said.
@@ -65,12 +62,11 @@ impl Case<'_> {
         let mut said = [0u64; 4096];
         let (asked, rest) = lines::read(text, &mut asked);
         let (said, rest) = lines::read(rest, &mut said);
-        let seen = self.make(asked, said);
-        if judging::is_same(seen) {
-            return Ok(Some(rest));
+        if let Err(differs) = self.make(asked, said) {
+            say::differs(rt, self.number, call, differs)?;
+            return Ok(None);
         }
-        say::differs(rt, self.number, call, seen)?;
-        Ok(None)
+        Ok(Some(rest))
     }
 
     // The calls of a case, up to the first that differs.
@@ -96,7 +92,7 @@ impl Case<'_> {
 
 // A case that does not begin as cases do.
 fn wrong(rt: &impl Print, case: u64) -> io::Result<Replayed> {
-    say::differs(rt, case, 0, Seen::Wrong)?;
+    say::differs(rt, case, 0, Differs::Wrong)?;
     Ok(Replayed {
         calls: 0,
         differs: true,

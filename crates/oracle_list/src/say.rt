@@ -1,22 +1,21 @@
 // What the replay writes to standard output.
 use crate::list::Total;
-use judging::Seen;
+use judging::Differs;
 use std::io;
 
 // Where a call differs, counted from 0.
-fn place(rt: &impl Print, seen: Seen) -> io::Result<()> {
-    match seen {
-        Seen::Same => Ok(()),
-        Seen::Answer(place) => print!(rt; ": number {place} of its answer"),
-        Seen::State(place) => print!(rt; ": word {place} of the state"),
-        Seen::Wrong => rt.print(": no such call, or the oracle's answer is cut short"),
+fn place(rt: &impl Print, differs: Differs) -> io::Result<()> {
+    match differs {
+        Differs::Answer(place) => print!(rt; ": number {place} of its answer"),
+        Differs::State(place) => print!(rt; ": word {place} of the state"),
+        Differs::Wrong => rt.print(": no such call, or the oracle's answer is cut short"),
     }
 }
 
 // A call that differs; 0 stands for the case's first line.
-pub(crate) fn differs(rt: &impl Print, case: u64, call: u64, seen: Seen) -> io::Result<()> {
+pub(crate) fn differs(rt: &impl Print, case: u64, call: u64, differs: Differs) -> io::Result<()> {
     print!(rt; "case {case}, call {call}")?;
-    place(rt, seen)?;
+    place(rt, differs)?;
     rt.print("\n")
 }
 

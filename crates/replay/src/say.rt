@@ -1,12 +1,12 @@
 // What the replay writes to standard output.
 use engine::{End, Report};
-use memory::Answer;
+use rules::Refusal;
 use std::io;
 
-pub(crate) fn answer(rt: &impl Print, answer: Answer) -> io::Result<()> {
+pub(crate) fn answer(rt: &impl Print, answer: Result<(), Refusal>) -> io::Result<()> {
     match answer {
-        Answer::Done => rt.print("done\n"),
-        Answer::Refused(refusal) => {
+        Ok(()) => rt.print("done\n"),
+        Err(refusal) => {
             let number = rules::number(refusal);
             print!(rt; "refused {number}\n")
         }
@@ -24,7 +24,7 @@ pub(crate) fn report(rt: &impl Print, report: Report) -> io::Result<()> {
         End::Done => rt.print("done\n"),
         End::Reached => rt.print("reached\n"),
         End::Spent => rt.print("spent\n"),
-        End::Refused(refusal) => answer(rt, Answer::Refused(refusal)),
+        End::Refused(refusal) => answer(rt, Err(refusal)),
     }
 }
 
