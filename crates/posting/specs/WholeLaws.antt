@@ -144,7 +144,7 @@ answer-read v read known e f = ap answer_for (sym f ∙ e) ∙ answer-for v
 pub has-passed : (p : Posted) → answered (taken_in (intake p)) ≡ Ok tt → intake p ≡ passed (whole_table p)
 has-passed p = go (intake p) refl
   where
-    no : (r : Refusal) → Err r ≡ Ok tt → ⊥
+    no : (r : Refusal) → ◌≡◌ {A = Result ⊤ Refusal} (Err r) (Ok tt) → ⊥
     no r e = let z : ◌≡◌ {A = ℕ} 0 1 = cc in omega arith
 
     go : (v : Intake.Verdict) → intake p ≡ v → answered (taken_in v) ≡ Ok tt → intake p ≡ passed (whole_table p)

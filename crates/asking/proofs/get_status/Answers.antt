@@ -6,6 +6,7 @@ use native.Mathlib.Omega.{arith}
 use Rattle.std.specs.Prelude.{Ok}
 use Rattle.asking.specs.declared.Status.{Status}
 use Rattle.lookup.specs.Inside.{table_in}
+use Rattle.lookup.specs.InsideLaws.{sizes-in}
 use Rattle.storing.specs.StoredLaws.{stored_of}
 use Rattle.asking.specs.AskLaws.{wanted, wanted-none, wanted-here, wanted-on, root_below, status-answered}
 use Rattle.asking.proofs.get_status.Goals as goal
@@ -39,7 +40,7 @@ pub overflow_add-from : goal.overflow_add-from
 overflow_add-from c =
     let a = c.args in
     let below = root_below a.id (table_in a.state.now) c.loop-row.from c.in-Some.row (sym c.next_parentless.ensures ∙ c.in-Some.is) in
-    omega arith
+    omega (arith, (sizes-in a.state.now (stored_of a.state.now c.requires).inside).0)
 
 pub loop-row-smaller : goal.loop-row-smaller
 loop-row-smaller c =

@@ -2,5 +2,5 @@
 use mathlib.Core.Path.{refl}
 use Rattle.lent_runs.proofs.done_for.Goals as goal
 
-pub returns-in-Err : goal.returns-in-Err
-returns-in-Err c = rw c.in-Err.is refl
+pub returns-in-Refused : goal.returns-in-Refused
+returns-in-Refused c = rw c.in-Refused.is refl

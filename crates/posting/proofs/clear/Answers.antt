@@ -1,16 +1,22 @@
--- `posting::clear` meets its contract. The loop's invariant: zeros from here to the end, laid now, are all of them laid at first. Assumes nothing.
-use mathlib.Core.Path.{sym, ◌∙◌}
+-- `posting::clear` meets its contract: the part is filled with zeros. Assumes nothing.
+use Prim.Native.Nat.{ℕ, zero, suc, ◌-◌}
+use mathlib.Core.Path.{◌≡◌, refl, sym, ap, ◌∙◌}
 use native.Mathlib.Omega.{arith}
-use Rattle.posting.specs.LayingLaws.{zero_more, zero-end}
-use borrow.Author.Rules.{rules}
+use mathlib.Core.List.{List, ◌∷◌, ◌++◌}
+use lib.ListN.{length, take, drop, replicate}
+use Rattle.words.specs.Lists.{part_length}
+use Rattle.words.specs.Laying.{zeros, zeros-long}
 use Rattle.posting.proofs.clear.Goals as goal
 
-pub loop-at-preserved : goal.loop-at-preserved
-loop-at-preserved c =
-    let l = c.loop-at in
-    (search rules, search rules, zero_more l.at c.args.end l.state (omega arith) (omega arith) ∙ l.invariant.2, search rules)
+zeros-are : (n : ℕ) → replicate n 0 ≡ zeros n
+zeros-are zero = refl
+zeros-are (suc n) = ap (λ (z : List ℕ). 0 ∷ z) (zeros-are n)
 
 pub returns : goal.returns
 returns c =
-    let l = c.loop-at in
-    sym (zero-end l.at c.args.end l.state (omega arith)) ∙ l.invariant.2
+    let state = c.args.state.now in
+    let start = c.args.start in
+    let size = c.args.end - start in
+    let many : length (take size (drop start state)) ≡ size = part_length start size state (omega (arith, c.requires)) in
+    let filled : c.fill.new.self ≡ zeros size = c.fill.ensures.after (λ y e. e) ∙ ap (λ (n : ℕ). replicate n 0) many ∙ zeros-are size in
+    λ i. take start state ++ (filled i ++ drop (sym (zeros-long size) i) (drop start state))

@@ -6,7 +6,3 @@ use Rattle.posting.proofs.lay_heads.Given as goal
 abbrev pub invariant-loop-row : goal.invariant-loop-row
 invariant-loop-row l =
     Underway l.models l.rows l.at l.initial.state l.row l.begin l.state
-
-abbrev pub decreases-loop-row : goal.decreases-loop-row
-decreases-loop-row l =
-    l.rows - l.row
