@@ -100,12 +100,12 @@ pub fn jt_inject_input(
     ensures leaves { state.new ≡ left state.old (call_in (Calls.inject_input (record { source_id = source_id; source_port = source_port; target_id = target_id; target_port = target_port; time = time; content = content })) state.old) }
 {
     let message = Message {
-        source_id: source_id,
-        source_port: source_port,
-        target_id: target_id,
-        target_port: target_port,
-        time: time,
-        content: content,
+        source_id,
+        source_port,
+        target_id,
+        target_port,
+        time,
+        content,
     };
     answer_number(simulation::inject_input(state, message))
 }

@@ -37,13 +37,9 @@ pub fn put(state: &mut [u64], models: &[u64], connectors: &[u64], couplings: &[u
     if state.len() < storing::state_words(models.len(), connectors.len(), couplings.len()) {
         return Err(Refusal::BadState);
     }
-    match posting::judged(models, connectors, couplings) {
-        Err(refusal) => Err(refusal),
-        Ok(()) => {
-            posting::replace(state, models, connectors, couplings);
-            Ok(())
-        }
-    }
+    posting::judged(models, connectors, couplings)?;
+    posting::replace(state, models, connectors, couplings);
+    Ok(())
 }
 
 // One more active message: 20, 10, 8, or done.

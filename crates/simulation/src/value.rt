@@ -48,8 +48,8 @@ impl Simulation {
             }
         }
         Changed {
-            simulation: Simulation { words: words },
-            answer: answer,
+            simulation: Simulation { words },
+            answer,
         }
     }
 
@@ -61,8 +61,8 @@ impl Simulation {
         let mut words = self.words;
         let answer = crate::put(&mut words, models, connectors, couplings);
         Changed {
-            simulation: Simulation { words: words },
-            answer: answer,
+            simulation: Simulation { words },
+            answer,
         }
     }
 
@@ -74,8 +74,8 @@ impl Simulation {
         let mut words = self.words;
         let answer = crate::inject_input(&mut words, message);
         Changed {
-            simulation: Simulation { words: words },
-            answer: answer,
+            simulation: Simulation { words },
+            answer,
         }
     }
 
@@ -87,8 +87,8 @@ impl Simulation {
         let mut words = self.words;
         let report = crate::step(&mut words, services, rows);
         Ran {
-            simulation: Simulation { words: words },
-            report: report,
+            simulation: Simulation { words },
+            report,
         }
     }
 
@@ -100,8 +100,8 @@ impl Simulation {
         let mut words = self.words;
         let report = crate::step_n(&mut words, services, count, rows);
         Ran {
-            simulation: Simulation { words: words },
-            report: report,
+            simulation: Simulation { words },
+            report,
         }
     }
 
@@ -113,8 +113,8 @@ impl Simulation {
         let mut words = self.words;
         let report = crate::step_until(&mut words, services, until, allowance, rows);
         Ran {
-            simulation: Simulation { words: words },
-            report: report,
+            simulation: Simulation { words },
+            report,
         }
     }
 
@@ -126,8 +126,8 @@ impl Simulation {
         let mut words = self.words;
         let answer = crate::reset(&mut words);
         Changed {
-            simulation: Simulation { words: words },
-            answer: answer,
+            simulation: Simulation { words },
+            answer,
         }
     }
 
@@ -139,8 +139,8 @@ impl Simulation {
         let mut words = self.words;
         let answer = crate::reset_messages(&mut words);
         Changed {
-            simulation: Simulation { words: words },
-            answer: answer,
+            simulation: Simulation { words },
+            answer,
         }
     }
 
@@ -152,8 +152,8 @@ impl Simulation {
         let mut words = self.words;
         let answer = crate::reset_global_time(&mut words);
         Changed {
-            simulation: Simulation { words: words },
-            answer: answer,
+            simulation: Simulation { words },
+            answer,
         }
     }
 
