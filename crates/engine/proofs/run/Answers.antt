@@ -16,10 +16,6 @@ use Rattle.rules.specs.Calls.{steps_until}
 use Rattle.engine.specs.RunLaws.{starts, goes_on, arrives, refuses, spent}
 use Rattle.engine.proofs.run.Goals as goal
 
-pub begin-active-requires : goal.begin-active-requires
-begin-active-requires c =
-    (c.requires.0, c.requires.1, c.requires.2)
-
 pub loop-steps-init : goal.loop-steps-init
 loop-steps-init c =
     let a = c.args in
@@ -29,14 +25,6 @@ loop-steps-init c =
       refl,
       starts a.services.now a.until (room_in a.rows.now) a.bound (table_in state) (sim_of state) a.rows.now c.begin-active.new.mem c.begin-active.ensures.loads c.begin-active.ensures.sound,
     )
-
-pub overflow_sub-room : goal.overflow_sub-room
-overflow_sub-room c =
-    c.loop-steps.invariant.3.few
-
-pub next_step-requires : goal.next_step-requires
-next_step-requires c =
-    (c.requires.0, c.loop-steps.invariant.3.sound, c.begin-active.ensures.begins, c.requires.3, c.loop-steps.invariant.3.came)
 
 pub collect-requires : goal.collect-requires
 collect-requires c =

@@ -26,14 +26,6 @@ use Rattle.model_events.specs.OfKind.{is-processor, is-batcher, is-stopwatch, no
 use borrow.Author.Rules.{rules}
 use Rattle.internal_events.proofs.atom_internal.Goals as goal
 
--- src/lib.rt:69:11
-pub kind_of-requires : goal.kind_of-requires
-kind_of-requires c = search rules
-
--- src/lib.rt:70:25
-pub enum_known-model : goal.enum_known-model
-enum_known-model c = search rules
-
 -- src/lib.rt:71:13
 pub processor_internal-requires : goal.processor_internal-requires
 processor_internal-requires c =

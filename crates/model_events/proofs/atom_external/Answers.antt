@@ -23,10 +23,6 @@ use Rattle.views.proofs.Lifts.{does-kind, row-kind}
 use Rattle.model_events.specs.OfKind.{is-processor, is-batcher, is-stopwatch, no-coupled, frame-kind}
 use Rattle.model_events.proofs.atom_external.Goals as goal
 
-pub kind_of-requires : goal.kind_of-requires
-kind_of-requires c =
-    (c.requires.0.scene.inside, c.requires.0.in_table)
-
 pub processor_external-requires : goal.processor_external-requires
 processor_external-requires c =
     let a = c.args in

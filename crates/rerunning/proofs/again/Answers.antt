@@ -12,10 +12,6 @@ pub loop-completed-init : goal.loop-completed-init
 loop-completed-init c =
     (refl, c.load.ensures.sound, ap done (sym c.load.ensures.loads), omega arith)
 
-pub step-requires : goal.step-requires
-step-requires c =
-    (c.requires.0.inside, c.loop-completed.invariant.1, c.requires.2)
-
 pub returns-then-is_err : goal.returns-then-is_err
 returns-then-is_err c =
     let a = c.args in

@@ -26,10 +26,6 @@ loop-row-init c =
     let t = table_in a.state.now in
     (refl, omega arith, adding-start t (messages_in a.active) 256 (Step.root_turn t a.services.now a.clock) (is_root t) a.active (length a.mem.now) a.mem.now 0 (length t.rows) c.requires.0.ready (omega arith))
 
-pub next_at_zero-requires : goal.next_at_zero-requires
-next_at_zero-requires c =
-    (c.requires.0.inside, c.loop-row.invariant.2.ready)
-
 pub root_turn-requires : goal.root_turn-requires
 root_turn-requires c =
     let a = c.args in
