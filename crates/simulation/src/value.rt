@@ -8,7 +8,6 @@ ghost use Rattle.asking.specs.Told.{status_answered};
 ghost use Rattle.simulation.specs.Answers.{count_told, time_told};
 ghost use Rattle.simulation.specs.Values.{posted_words};
 
-use crate::{Result<f64, Refusal>, Result<usize, Refusal>};
 use asking::Status;
 use engine::Report;
 use rules::{Message, Refusal};
@@ -44,7 +43,7 @@ impl Simulation {
             Ok(()) => {}
             Err(_) => {
                 let none = [0u64; 0];
-                crate::post(&none, &none, &none, &mut words);
+                let _ = crate::post(&none, &none, &none, &mut words);
             }
         }
         Changed {
