@@ -21,7 +21,6 @@ ghost use Rattle.lookup.specs.Inside.{Inside, table_in};
 ghost use Rattle.storing.specs.State.{is_stored};
 ghost use Rattle.holding.specs.Fitting.{queue_fits, row_fits, next_if, row_end, rows_end, tail_fits, table_fits};
 
-
 // Whether the bits are a time's.
 fn is_time(bits: u64) -> bool
     ensures { result ≡ is_time (of_bits binary64 bits) }
@@ -328,7 +327,7 @@ fn table_fits(state: &[u64]) -> bool
         &state[connectors..couplings],
         &state[couplings..tail],
     )
-        .is_ok()
+    .is_ok()
 }
 
 // Whether the buffer holds a simulation: what 20 asks of a lent state.

@@ -1,5 +1,5 @@
 -- The numbers and words of an answer are those of the rules' outcome that it tells. Assumes nothing.
-use Rattle.std.specs.Prelude.{ℕ, ◌≡◌, refl, List, Float, Err, Ok, Result, None, Some}
+use Rattle.std.specs.Prelude.{ℕ, ◌≡◌, refl, List, Float, Err, Ok, Result, None, Some, ⊤}
 use Rattle.rules.specs.declared.Refusal.{Refusal}
 use Rattle.std.proofs.Common.{sym, ap, ◌∙◌}
 use Rattle.std.specs.Float.{binary64}

@@ -29,9 +29,7 @@ fn atom_internal(
     ensures frame { Frame (table_in state.now) at (length mem.old) mem.old mem.new }
 {
     match lookup::kind_of(state, row) {
-        Kind::Processor(model) => {
-            queue_rows::processor_internal(mem, services, row, model, at)
-        }
+        Kind::Processor(model) => { queue_rows::processor_internal(mem, services, row, model, at) }
         Kind::Batcher(model) => queue_rows::batcher_internal(mem, row, model, at),
         Kind::Stopwatch(model) => watch_rows::stopwatch_internal(mem, row, model, at),
         Kind::Coupled => Err(Refusal::BadState),

@@ -10,7 +10,13 @@ ghost use Rattle.parked_rows.specs.Parking.{Parks, Emptied};
 use rules::Refusal;
 
 // A message for a component is parked behind the Coupled's others; the 65th is 8.
-pub fn park(mem: &mut [u64], row: usize, component: u64, port: u64, content: u32) -> Result<(), Refusal>
+pub fn park(
+    mem: &mut [u64],
+    row: usize,
+    component: u64,
+    port: u64,
+    content: u32,
+) -> Result<(), Refusal>
     requires { Row Table.coupled (begin_in mem.old row) mem.old row × (component < 65536) × (port < 65536) }
     ensures parks { Parks result (begin_in mem.old row) row mem.old mem.new (record { component = component; port = port; content = content }) }
     ensures owns { Own row (begin_in mem.old row) 64 0 0 mem.old mem.new }

@@ -148,7 +148,12 @@ pub fn judged(models: &[u64], connectors: &[u64], couplings: &[u64]) -> Result<(
 }
 
 // `post`: a new simulation of the table into the lent state. 20 where the buffer is too short for it, then table intake.
-pub fn post(models: &[u64], connectors: &[u64], couplings: &[u64], state: &mut [u64]) -> Result<(), Refusal>
+pub fn post(
+    models: &[u64],
+    connectors: &[u64],
+    couplings: &[u64],
+    state: &mut [u64],
+) -> Result<(), Refusal>
     ensures answers { result ≡ answered (post_in models.now connectors.now couplings.now state.old) }
     ensures leaves { state.new ≡ left_anew models.now connectors.now couplings.now state.old (post_in models.now connectors.now couplings.now state.old) }
 {

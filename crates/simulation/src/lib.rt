@@ -19,7 +19,12 @@ mod value;
 pub use value::{Changed, Ran, Simulation};
 
 // A new simulation of a table: 20, 1, 2, 3, or done. Of the state buffer it asks only the length.
-pub fn post(models: &[u64], connectors: &[u64], couplings: &[u64], state: &mut [u64]) -> Result<(), Refusal>
+pub fn post(
+    models: &[u64],
+    connectors: &[u64],
+    couplings: &[u64],
+    state: &mut [u64],
+) -> Result<(), Refusal>
     ensures answers { result ≡ answered (post_in models.now connectors.now couplings.now state.old) }
     ensures leaves { state.new ≡ left_anew models.now connectors.now couplings.now state.old (post_in models.now connectors.now couplings.now state.old) }
 {
@@ -27,7 +32,12 @@ pub fn post(models: &[u64], connectors: &[u64], couplings: &[u64], state: &mut [
 }
 
 // Fresh default models of another table; messages, clock and place stay: 20, 1, 2, 3, or done.
-pub fn put(state: &mut [u64], models: &[u64], connectors: &[u64], couplings: &[u64]) -> Result<(), Refusal>
+pub fn put(
+    state: &mut [u64],
+    models: &[u64],
+    connectors: &[u64],
+    couplings: &[u64],
+) -> Result<(), Refusal>
     ensures answers { result ≡ answered (put_in models.now connectors.now couplings.now state.old) }
     ensures leaves { state.new ≡ left_anew models.now connectors.now couplings.now state.old (put_in models.now connectors.now couplings.now state.old) }
 {

@@ -85,9 +85,5 @@ pub fn advance_clock(clock: f64, advance: f64) -> Option<f64>
     ensures { result ≡ later_of clock advance }
 {
     let next = clock + advance;
-    if is_time(next) {
-        Some(next)
-    } else {
-        None
-    }
+    if is_time(next) { Some(next) } else { None }
 }

@@ -5,7 +5,7 @@
 ghost use Rattle.std.specs.Prelude.{◌≡◌, [], ◌∷◌, map, ◌+◌, ◌-◌, ◌*◌, ◌/◌, ◌%◌, ◌≤◌, ◌<◌, length, leb, eqb, true, ◌||◌};
 ghost use Rattle.rules.specs.Base.{hold, every, from};
 ghost use Rattle.words.specs.Laying.{zeros, laid};
-ghost use Rattle.trace_blocks.specs.Blocks.{word_limit, is_kind, word_bytes, bytes_of, word_at, halves, sum, fills_block, can_write, written_block, judged, numbers_in};
+ghost use Rattle.trace_blocks.specs.Blocks.{word_limit, is_kind, bytes_of, word_at, halves, sum, fills_block, can_write, written_block, judged, numbers_in};
 ghost use Rattle.trace_blocks.specs.Pairs.{pair_at, numbers_out, count_out};
 
 // What a kind of block says: numbers a row, rows a block at most, and word 126.

@@ -2,7 +2,7 @@
 #![tactic(auto)]
 
 ghost use Rattle.std.specs.Prelude.{◌≡◌, true, ◌/◌, ◌<◌, length, get_or, set};
-ghost use Rattle.words.specs.Queue.{cleared, moved_up};
+ghost use Rattle.words.specs.Queue.{moved_up};
 ghost use Rattle.words.specs.Search.{in_row, matches, next_row};
 
 // A cell of a row, and the word that must stand in it. A row is looked for by a few of these.

@@ -7,10 +7,10 @@ use Rattle.storing.specs.Lent.{call_in}
 use Rattle.host.specs.NumberLaws.{listing-told}
 use Rattle.host.proofs.jt_get_messages.Goals as goal
 
-pub returns-in-Count : goal.returns-in-Count
-returns-in-Count c =
-    let n = c.in-Count.n in
-    let h = listing-told c.args.count.now (call_in (Calls.get_messages (room_in c.args.rows.now)) c.args.state.now) c.get_messages.result (Ok n) c.get_messages.ensures.answers c.in-Count.is in
+pub returns-in-Ok : goal.returns-in-Ok
+returns-in-Ok c =
+    let n = c.in-Ok.n in
+    let h = listing-told c.args.count.now (call_in (Calls.get_messages (room_in c.args.rows.now)) c.args.state.now) c.get_messages.result (Ok n) c.get_messages.ensures.answers c.in-Ok.is in
     record { answers = h.0; lays = c.get_messages.ensures.lays; tells = h.1 }
 
 pub returns-in-Err : goal.returns-in-Err
