@@ -50,7 +50,9 @@ impl Source {
 }
 
 // An argument; empty where there is none, or too little room for it.
-pub(crate) fn argument(rt: HostRuntime, at: usize, room: &mut [u8]) -> &[u8] {
+pub(crate) fn argument(rt: HostRuntime, at: usize, room: &mut [u8]) -> &[u8]
+    ensures { length result.now ≤ length room.old }
+{
     match rt.arg(at, room) {
         Ok(length) => &room[..length],
         Err(_) => &[],

@@ -1,10 +1,13 @@
 // Runs what a bench file says.
+ghost use Rattle.std.specs.Prelude.{◌≤◌, length};
+
 use crate::course::{Bench, Course, Settings, Status};
 use crate::out::{Listing, Refused};
 use crate::trace::Trace;
 use crate::{input, room, say, trace, warn, why};
 use bench_file::{Misread, Page};
 use rules::{Message, Refusal};
+use std::io::Stderr;
 
 // What an action's row asks for, by its first word.
 #[derive(Clone, Copy)]
@@ -25,7 +28,9 @@ pub(crate) fn action_of(cells: &[u64; 7]) -> Action {
 }
 
 // The first of a page's rows, so many.
-fn first_rows(page: &[u64], rows: usize, width: usize) -> &[u64] {
+fn first_rows(page: &[u64], rows: usize, width: usize) -> &[u64]
+    ensures { length result.now ≤ length page.now }
+{
     page.get(..rows.saturating_mul(width)).unwrap_or(page)
 }
 
@@ -101,12 +106,27 @@ fn begin(rt: HostRuntime, bench: Bench, settings: Settings, state: &mut [u64]) -
         say::omitted(err, capacities::omitted(bench.models));
         warn::ends(err, bench);
     }
+    let (status, idle) = listed(rt, bench, settings, state);
+    if !settings.quiet {
+        left(err, bench, state, status, idle);
+    }
+    status
+}
+
+// The listing and the trace: how it ended, and the action of the last run, where that ended idle. The trace is closed then: nothing that is
+// said afterwards gets into it.
+fn listed(
+    rt: HostRuntime,
+    bench: Bench,
+    settings: Settings,
+    state: &mut [u64],
+) -> (Status, Option<usize>) {
     let mut room: room::ServiceTimes = room::filled(0.0);
     let Some(services) = times_of(bench.services, &mut room) else {
-        return Status::Wrong;
+        return (Status::Wrong, None);
     };
     let Ok(file) = trace::open(rt) else {
-        return Status::Cut;
+        return (Status::Cut, None);
     };
     let mut buffer: room::Buffer = room::filled(0);
     let mut rows: room::Rows = room::filled(0);
@@ -123,10 +143,20 @@ fn begin(rt: HostRuntime, bench: Bench, settings: Settings, state: &mut [u64]) -
     course.run(bench);
     course.listing.flush();
     course.finish();
-    if !settings.quiet {
-        course.warn(bench);
+    (course.listing.status, course.idle)
+}
+
+// Warns of what is left where the file was run to its end, and of what is held where its last run ended idle.
+fn left(err: Stderr, bench: Bench, state: &[u64], status: Status, idle: Option<usize>) {
+    let Some(changing) = state.get(changing_at(state)..) else {
+        return;
+    };
+    if let Status::Ran = status {
+        warn::services(err, bench, changing);
     }
-    course.listing.status
+    if let Some(action) = idle {
+        warn::held(err, bench, action, changing);
+    }
 }
 
 // The times of these bits, laid into the room, where that is enough for them.
@@ -185,9 +215,11 @@ impl Course<'_> {
         self.idle = is_idle.then_some(row);
     }
 
+    // One that is refused leaves no run that ended idle.
     fn inject(&mut self, message: Message) {
         if let Err(refusal) = simulation::inject_input(self.state, message) {
             self.listing.status = Status::Refused(refusal);
+            self.idle = None;
         }
     }
 
@@ -198,20 +230,6 @@ impl Course<'_> {
         self.listing.end_refused(refusal);
         say::place(err, bench, Page::Actions, row);
         say::refused(err, Refused(refusal), self, is_injection);
-    }
-
-    // Warns of what is left where the file was run to its end, and of what is held where its last run ended idle.
-    fn warn(&self, bench: Bench) {
-        let err = self.listing.rt.stderr();
-        let Some(changing) = self.state.get(changing_at(self.state)..) else {
-            return;
-        };
-        if self.listing.goes_on() {
-            warn::services(err, bench, changing);
-        }
-        if let Some(action) = self.idle {
-            warn::held(err, bench, action, changing);
-        }
     }
 }
 
