@@ -1,7 +1,7 @@
 // The lent table: readers of its rows, and intake (refusals 1, 2 and 3, with the row). Layout: docs/LAYOUT.md.
 #![tactic(auto)]
 
-ghost use Rattle.std.specs.Prelude.{◌≡◌, true, not, ◌/◌, ◌≤◌, ◌<◌, length, eqb, Some};
+ghost use Rattle.std.specs.Prelude.{◌≡◌, true, not, ◌/◌, ◌≤◌, ◌<◌, length, take, drop, eqb, Some};
 ghost use Rattle.rules.specs.Layout as Layout;
 ghost use Rattle.rules.specs.Intake as Intake;
 ghost use Rattle.words.specs.Search.{next_row};
@@ -84,13 +84,21 @@ enum Part {
     Couplings,
 }
 
+// The words of the row that starts at a place: fewer where it is cut short.
+fn row_from(slice: &[u64], start: usize, width: usize) -> &[u64]
+    requires { start ≤ length slice.now }
+    ensures { result.now ≡ take width (drop start slice.now) }
+{
+    let rest = &slice[start..];
+    &rest[..width.min(rest.len())]
+}
+
 // The words of a row: fewer where it is cut short, none past the last.
 pub fn row_of(slice: &[u64], width: usize, row: usize) -> &[u64]
     ensures { result.now ≡ row_of width slice.now row }
 {
     let start = row.saturating_mul(width).min(slice.len());
-    let end = start.saturating_add(width).min(slice.len());
-    &slice[start..end]
+    row_from(slice, start, width)
 }
 
 // Whether a row has all of its words.
@@ -113,17 +121,15 @@ fn cells_fit(cells: &[u64], first: usize, end: usize) -> bool
     true
 }
 
-// Whether an optional field is given.
+// Whether an optional field is given. None has the number 0.
 fn is_given(cells: &[u64], field: u64) -> bool
-    requires { 0 < field }
     ensures { result ≡ Layout.is_given field cells.now }
 {
-    words::word_at(cells, 2) / field % 2 == 1
+    0 < field && words::word_at(cells, 2) / field % 2 == 1
 }
 
 // The setting of a row, or what it is where it is omitted.
 pub fn setting_in(cells: &[u64], field: u64, omitted: u64) -> u64
-    requires { 0 < field }
     ensures { result ≡ Judging.setting_in field omitted cells.now }
 {
     if is_given(cells, field) {
@@ -150,6 +156,7 @@ fn processor_of(input: u64, output: u64, capacity: u64) -> Option<Kind>
     }))
 }
 
+// A Batcher's fields, or None.
 #[tactic(auto, unfolding(times::specs::Answers::time_of_bits))]
 fn batcher_of(input: u64, output: u64, size: u64, bits: u64) -> Option<Kind>
     ensures { result ≡ kind_of (Some (Judging.batcher_of input output size bits)) }
@@ -251,7 +258,7 @@ pub fn kind_at(models: &[u64], row: usize) -> Option<Kind>
     kind_in(row_of(models, MODEL_WIDTH, row))
 }
 
-// The id of a row's parent.
+// The id of a row's parent, or None.
 pub fn parent_at(models: &[u64], row: usize) -> Option<u64>
     ensures { result ≡ parent_of (Layout.parent_in (row_of Layout.model_width models.now row)) }
 {
@@ -373,12 +380,15 @@ fn is_child(cells: &[u64], owner: u64, target: u64) -> bool
 }
 
 // Whether some row has this id and this parent.
+// kept: it stands by itself, since within another function its short loop took up to twice the time, by where it came to lie
 #[tactic(auto, using(crate::proofs::Laws::searching))]
+#[inline(never)]
 pub fn is_component(models: &[u64], owner: u64, target: u64) -> bool
     ensures { result ≡ Intake.is_component_of (Judging.all_in models.now) owner target }
 {
     for row in (0..models.len() / MODEL_WIDTH).rev() {
-        if is_child(row_of(models, MODEL_WIDTH, row), owner, target) {
+        let start = row * MODEL_WIDTH;
+        if is_child(&models[start..start + MODEL_WIDTH], owner, target) {
             return true;
         }
     }
@@ -445,7 +455,7 @@ fn first_bad(part: Part, models: &[u64], slice: &[u64]) -> Option<usize>
     let width = width_of(part);
     let mut greatest = 0;
     for row in 0..slice.len().div_ceil(width) {
-        let cells = row_of(slice, width, row);
+        let cells = row_from(slice, row * width, width);
         if !keeps(part, models, slice, row, cells, greatest) {
             return Some(row);
         }

@@ -23,7 +23,7 @@ loop-row-preserved c =
     let a = c.args in
     let l = c.loop-row in
     let n = c.div_ceil-row-end.ensures ∙ count-ceil a.part a.slice.now l.invariant.0 in
-    let first = c.word_at.ensures ∙ ap (λ (w : List ℕ). cell w 0) (rw l.invariant.0 at c.row_of-cells.ensures) in (
+    let first = c.word_at.ensures ∙ ap (λ (w : List ℕ). cell w 0) (rw l.invariant.0 at c.row_from-cells.ensures) in (
       l.invariant.0,
       most-next (width_of a.part) a.slice.now l.row l.invariant.1 (omega (arith, c.max-greatest.ensures)) (omega (arith, first, c.max-greatest.ensures)),
       sym (search-skip _ l.row _ (rw n at c.loop-row-test.true) (ap not (sym c.keeps.ensures) ∙ ap not c.if-not-keeps.false)) ∙ l.invariant.2,
