@@ -20,7 +20,10 @@ pub fn copy(dst: &mut [u64], src: &[u64], start: usize, n: usize)
     requires { (start + n ≤ length src.now) × (n ≤ length dst.old) }
     ensures { dst.new ≡ copied start n src.now dst.old }
 {
-    dst[..n].copy_from_slice(&src[start..start + n]);
+    // kept: with `copy_from_slice`, here and below, a call takes longer, and the C library needs memmove of whoever links it
+    for k in 0..n {
+        dst[k] = src[start + k];
+    }
 }
 
 // The `count` messages that stand from `active` on, as rows from the start of an output. All beyond stays.
@@ -62,7 +65,9 @@ fn copy_between(dst: &mut [u64], src: &[u64], from: usize, to: usize)
     requires { (from ≤ to) × (to ≤ length src.now) × (to ≤ length dst.old) }
     ensures { Brought from to src.now dst.old dst.new }
 {
-    dst[from..to].copy_from_slice(&src[from..to]);
+    for k in from..to {
+        dst[k] = src[k];
+    }
 }
 
 // At least as many places of a column as the one or the other uses, by fours: a machine copies four words in one turn of a loop.

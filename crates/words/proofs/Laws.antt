@@ -1,13 +1,13 @@
--- What is copied to the front and what is cleared are together `moved_up`. Assumes nothing.
-use Prim.Native.Nat.{ℕ, zero, suc, ◌+◌, ◌-◌, ◌≤◌}
+-- The steps of the loop that moves words up, and that what it leaves and what is cleared are together `moved_up`. Assumes nothing.
+use Prim.Native.Nat.{ℕ, zero, suc, ◌+◌, ◌-◌, ◌≤◌, ◌<◌}
 use mathlib.Core.Path.{◌≡◌, refl, sym, ap, ◌∙◌}
 use mathlib.Core.List.{List, [], ◌∷◌, ◌++◌, append_assoc}
 use native.Mathlib.Omega.{arith}
-use native.Mathlib.Nat.{zero-sub, zero-add, sub-zero, suc-sub-suc}
-use lib.ListN.{length, replicate, take, drop, length-append, length-map, length-take, length-drop, drop_of_length-le}
-use lib.Seq.{take_at, drop_at, take-length, drop-length, drop-drop, length-take-le, length-slice, take-nil, take_all}
+use native.Mathlib.Nat.{zero-sub, zero-add, add_comm, sub-zero, suc-sub-suc}
+use native.Mathlib.Numerals.{add-one}
+use lib.ListN.{length, replicate, get_or, set, take, drop, length-append, length-map, length-take, length-drop, drop_of_length-le}
+use lib.Seq.{take_at, drop_at, take-length, drop-length, drop-drop, paste-suc, length-take-le, length-slice, take-nil, take_all, get_or-append-add, get_or-drop}
 use Rattle.words.specs.Queue.{cleared, moved_up}
-use Rattle.std.specs.List.{copy_within}
 use Rattle.std.proofs.Common.{inl, inr}
 use Rattle.std.proofs.lemmas.Bool.{cases_lt}
 use Prim.Native.Nat.{min}
@@ -16,12 +16,34 @@ use Rattle.std.proofs.lemmas.Slice.{put_mid-paste}
 use Rattle.std.proofs.lemmas.List.Edits.{paste_all}
 use Rattle.std.proofs.Math.Nat.{min-eq_left, min-eq_right}
 
--- ---- the words from `gone` to before `end` are copied to the front
+-- ---- the words from `gone` on, of which `place` have moved to the front
+abbrev pub moved : ℕ → ℕ → List ℕ → List ℕ
+moved gone place l = take place (drop gone l) ++ drop place l
+
+module _ (gone place : ℕ) (l : List ℕ) (h : place + gone < length l) where
+  -- the word that moves next is where it was
+  pub moved-next : get_or (moved gone place l) (place + gone) 0 ≡ get_or (drop gone l) place 0
+  moved-next =
+      let front : length (take place (drop gone l)) ≡ place = length-take-le place (drop gone l) (rw (length-drop gone l) (omega arith)) in
+      let at : place + gone ≡ length (take place (drop gone l)) + gone = omega arith in
+      rw (at, get_or-append-add, get_or-drop place l gone 0, get_or-drop gone l place 0, add_comm place gone)
+
+  -- one word more
+  pub moved_more : set (moved gone place l) place (get_or (moved gone place l) (place + gone) 0) ≡ moved gone (place + 1) l
+  moved_more =
+      let in-l : 0 + place < length l = omega arith in
+      let in_rest : place < length (drop gone l) = rw (length-drop gone l) (omega arith) in
+      rw (moved-next, add-one) (simp zero-add at (paste-suc l 0 (drop gone l) place 0 in-l in_rest))
+
 drop-take : (gone end : ℕ) (l : List ℕ) → take (end - gone) (drop gone l) ≡ drop gone (take end l)
 drop-take zero end l = rw sub-zero
 drop-take (suc gone) zero l = rw zero-sub
 drop-take (suc gone) (suc end) [] = take-nil (suc end - suc gone)
 drop-take (suc gone) (suc end) (x ∷ xs) = rw suc-sub-suc (drop-take gone end xs)
+
+-- all have moved
+pub moved_all : (gone end : ℕ) (l : List ℕ) → moved gone (end - gone) l ≡ drop gone (take end l) ++ drop (end - gone) l
+moved_all gone end l = rw (drop-take gone end l)
 
 -- the places from `start` to before `place` are cleared
 abbrev pub cleared_to : ℕ → ℕ → List ℕ → List ℕ
@@ -71,10 +93,9 @@ moved-within gone held l = rw (take-min held l, drop-min held l, ← length-take
 
 -- ---- what the two calls leave
 module _ (out end : ℕ) (l m left : List ℕ) (some : out ≤ end) (fits : end ≤ length l) where
-  pub moved_up-says : m ≡ copy_within l out end 0 → left ≡ replicate (length (take (end - (end - out)) (drop (end - out) m))) 0 → put_mid (end - out) (end - (end - out)) m left ≡ moved_up out end l
-  moved_up-says moved c =
+  pub moved_up-says : m ≡ drop out (take end l) ++ drop (end - out) l → left ≡ replicate (length (take (end - (end - out)) (drop (end - out) m))) 0 → put_mid (end - out) (end - (end - out)) m left ≡ moved_up out end l
+  moved_up-says front c =
       let start : ℕ = end - out in
-      let front : m ≡ drop out (take end l) ++ drop start l = moved ∙ rw (drop-take out end l, zero-add) in
       let n : ℕ = end - start in
       let whole : end ≤ length m = omega (arith, simp (length-append, length-drop, length-take) at (ap length front)) in
       let long : length (drop start (take end m)) ≡ n = length-slice start end m whole in

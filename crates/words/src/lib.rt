@@ -1,7 +1,7 @@
 // Lent words: a queue that stands in the first of them, and the search for a row among rows of words.
 #![tactic(auto)]
 
-ghost use Rattle.std.specs.Prelude.{◌≡◌, true, ◌/◌, ◌<◌, length, get_or, set};
+ghost use Rattle.std.specs.Prelude.{◌≡◌, true, ◌-◌, ◌/◌, ◌≤◌, ◌<◌, ◌++◌, length, get_or, set, take, drop};
 ghost use Rattle.words.specs.Queue.{moved_up};
 ghost use Rattle.words.specs.Search.{in_row, matches, next_row};
 
@@ -28,13 +28,24 @@ pub fn push(words: &mut [u64], held: usize, job: u64)
     }
 }
 
+// Moves the words from `gone` to before `end` to the front.
+// kept: `copy_within` would need memmove of whoever links the C library
+fn shift(words: &mut [u64], gone: usize, end: usize)
+    requires { (gone ≤ end) × (end ≤ length words.old) }
+    ensures { words.new ≡ drop gone (take end words.old) ++ drop (end - gone) words.old }
+{
+    for place in 0..end - gone {
+        words[place] = words[place + gone];
+    }
+}
+
 // After a release: the first `gone` of the `held` go, the rest move up, and the places that they leave are cleared.
 pub fn move_up(words: &mut [u64], held: usize, gone: usize)
     ensures { words.new ≡ moved_up gone held words.old }
 {
     let end = held.min(words.len());
     let out = gone.min(end);
-    words.copy_within(out..end, 0);
+    shift(words, out, end);
     words[end - out..end].fill(0);
 }
 

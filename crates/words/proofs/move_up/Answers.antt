@@ -1,4 +1,4 @@
--- `words::move_up` meets its contract. What is copied to the front and what is cleared are together `moved_up`. Assumes nothing.
+-- `words::move_up` meets its contract. What is moved to the front and what is cleared are together `moved_up`. Assumes nothing.
 use Rattle.std.proofs.Common.{◌≡◌, ◌≤◌, ◌∙◌, length, arith}
 use Rattle.std.proofs.Math.Nat.{min-le_right}
 use Rattle.words.specs.Queue.{moved_up}
@@ -14,4 +14,4 @@ returns c =
     let fits : end ≤ length a.words.now = omega (arith, c.min-end.ensures, min-le_right a.held (length a.words.now)) in
     let whole : moved_up out end a.words.now ≡ moved_up a.gone a.held a.words.now =
     rw (c.min-out.ensures, c.min-end.ensures) (moved-within a.gone a.held a.words.now) in
-    moved_up-says out end a.words.now c.copy_within.new.self c.fill.new.self some fits c.copy_within.ensures.after (c.fill.ensures.after (λ y e. e)) ∙ whole
+    moved_up-says out end a.words.now c.shift.new.words c.fill.new.self some fits c.shift.ensures (c.fill.ensures.after (λ y e. e)) ∙ whole
