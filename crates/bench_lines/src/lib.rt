@@ -363,6 +363,7 @@ fn value_of(word: &[u8], value: Value) -> Option<u64>
 }
 
 // The cells with a field's value, and its flag in word 2.
+#[inline(always)]
 fn keep(cells: [u64; 10], field: Field, value: u64) -> [u64; 10]
     ensures { result ≡ kept field value cells }
 {
@@ -375,6 +376,7 @@ fn keep(cells: [u64; 10], field: Field, value: u64) -> [u64; 10]
 }
 
 // What was expected where a field is wrong.
+#[inline(always)]
 fn wrong(progress: Progress, what: Wanted) -> Mistake
     ensures { result ≡ stops_at progress.at (wants progress.or what) }
 {
@@ -388,6 +390,7 @@ fn wrong(progress: Progress, what: Wanted) -> Mistake
 }
 
 // The value of a field, from where the line is read on.
+#[inline(always)]
 fn read_value(line: &[u8], progress: Progress, field: Field) -> Result<Progress, Mistake>
     requires { progress.at ≤ length line.now }
     ensures { (place_of result ≤ length line.now) × (course_of result ≡ read_value line.now field progress.or progress.at progress.cells) }
@@ -413,6 +416,7 @@ fn read_value(line: &[u8], progress: Progress, field: Field) -> Result<Progress,
 }
 
 // A field whose word is not there.
+#[inline(always)]
 fn left_out(progress: Progress, field: Field) -> Result<Progress, Mistake>
     ensures { (place_of result ≡ progress.at) × (course_of result ≡ left_out field progress.or progress.at progress.cells) }
 {
@@ -426,6 +430,7 @@ fn left_out(progress: Progress, field: Field) -> Result<Progress, Mistake>
 }
 
 // A field, from where the line is read on: its word, if it has one, and then its value.
+#[inline(always)]
 fn read_field(line: &[u8], progress: Progress, field: Field) -> Result<Progress, Mistake>
     requires { progress.at ≤ length line.now }
     ensures { (place_of result ≤ length line.now) × (course_of result ≡ read_field line.now field progress.or progress.at progress.cells) }
