@@ -5,6 +5,7 @@ use Rattle.std.proofs.lemmas.Bool.{lt-leb}
 use Rattle.std.proofs.Math.ListN.{length}
 use Rattle.trace_blocks.specs.declared.BlockKind.{BlockKind}
 use Rattle.trace_files.specs.declared.ReadError.{ReadError}
+use Rattle.trace_files.specs.declared.ReadError.TheVariants.{BadBlock, NoRoom}
 use Rattle.trace_files.specs.Files.{Reading, read, bad_block, no_room, read_trace, rows_after}
 use Rattle.trace_files.specs.Answers.{Read, is_read, read_is}
 use Rattle.trace_files.proofs.ReadLoop.{rest}
@@ -29,3 +30,9 @@ module _ (kind : BlockKind) (answer : Read) where
   err-keeps rows (read numbers) why e a = let z : ◌≡◌ {A = ℕ} 0 1 = cc in absurd (omega arith)
   err-keeps rows (bad_block j) why e a = refl
   err-keeps rows no_room why e a = refl
+
+  pub bad-keeps : (rows : List ℕ) (r : Reading) (i : ℕ) → answer ≡ read_is kind r → answer ≡ Err (BadBlock i) → rows ≡ rows_after rows r
+  bad-keeps rows r i e a = err-keeps rows r (BadBlock i) e a
+
+  pub full-keeps : (rows : List ℕ) (r : Reading) → answer ≡ read_is kind r → answer ≡ Err NoRoom → rows ≡ rows_after rows r
+  full-keeps rows r e a = err-keeps rows r NoRoom e a
