@@ -116,7 +116,7 @@ fn digits(word: &[u8], base: u64, most: u64, before: u64) -> Option<u64>
     Some(value)
 }
 
-// A whole number of at most `most`, in decimal digits.
+// A whole number of at most `most`, in decimal digits; or None.
 pub fn number_of(word: &[u8], most: u64) -> Option<u64>
     ensures { result ≡ number_of most word.now }
 {
@@ -158,7 +158,7 @@ fn ten_to(k: usize) -> u64
     10_u64.pow(k as u32)
 }
 
-// The bits of a decimal number with its first point at `point`. The two whole numbers are exact as f64, so that the division is all that rounds.
+// The bits of a decimal number with its first point at `point`; or None. The two whole numbers are exact as f64, so that the division is all that rounds.
 fn decimal_of(word: &[u8], point: usize) -> Option<u64>
     requires { (point ≡ text_span word.now) × (point < length word.now) }
     ensures { result ≡ decimal_of word.now }
@@ -171,7 +171,7 @@ fn decimal_of(word: &[u8], point: usize) -> Option<u64>
     Some(times::bits_of(n as f64 / ten_to(behind) as f64))
 }
 
-// The bits of a time: those of a whole number of at most 2^53 or of a decimal number, or those that `0x` and 16 digits say.
+// The bits of a time: those of a whole number of at most 2^53 or of a decimal number, or those that `0x` and 16 digits say; or None.
 pub fn time_of(word: &[u8]) -> Option<u64>
     ensures { result ≡ time_of word.now }
 {

@@ -117,7 +117,7 @@ pub fn is_coupled(state: &[u64], row: usize) -> bool
     state[start + 1] == COUPLED
 }
 
-// The first component of an owner from a row on.
+// The first component of an owner from a row on, or None.
 #[tactic(auto, using(crate::proofs::Rows::rows))]
 pub fn next_component(state: &[u64], from: usize, owner: u64) -> Option<usize>
     requires { Inside state.now }
@@ -126,7 +126,7 @@ pub fn next_component(state: &[u64], from: usize, owner: u64) -> Option<usize>
     selection::next_component(models_in(state), from, owner)
 }
 
-// The first row without parent from a row on.
+// The first row without parent from a row on, or None.
 #[tactic(auto, using(crate::proofs::Rows::rows))]
 pub fn next_parentless(state: &[u64], from: usize) -> Option<usize>
     requires { Inside state.now }
@@ -135,7 +135,7 @@ pub fn next_parentless(state: &[u64], from: usize) -> Option<usize>
     selection::next_parentless(models_in(state), from)
 }
 
-// The component of this owner that has this id. Ids differ, so there is one at most.
+// The component of this owner that has this id, or None. Ids differ, so there is one at most.
 pub fn component_of(state: &[u64], owner: u64, id: u64) -> Option<usize>
     requires { Inside state.now }
     ensures { found_in result ≡ those (λ j. eqb (id_at (table_in state.now) j) id) (components (table_in state.now) owner) }
@@ -146,7 +146,7 @@ pub fn component_of(state: &[u64], owner: u64, id: u64) -> Option<usize>
     if found == row { Some(row) } else { None }
 }
 
-// The first external input coupling of an owner at a port, from a place on.
+// The first external input coupling of an owner at a port, from a place on, or None.
 pub fn next_input(state: &[u64], from: usize, owner: u64, port: u64) -> Option<usize>
     requires { Inside state.now }
     ensures { result ≡ first_from (is_input (couplings_in state.now) owner port) from (length (table_in state.now).couplings - from) }
@@ -154,7 +154,7 @@ pub fn next_input(state: &[u64], from: usize, owner: u64, port: u64) -> Option<u
     selection::next_input(couplings_in(state), from, owner, port)
 }
 
-// The first external output coupling of an owner from a component's port, from a place on.
+// The first external output coupling of an owner from a component's port, from a place on, or None.
 pub fn next_output(state: &[u64], from: usize, owner: u64, source: u64, port: u64) -> Option<usize>
     requires { Inside state.now }
     ensures { result ≡ first_from (is_output (couplings_in state.now) owner source port) from (length (table_in state.now).couplings - from) }
@@ -162,7 +162,7 @@ pub fn next_output(state: &[u64], from: usize, owner: u64, source: u64, port: u6
     selection::next_output(couplings_in(state), from, owner, source, port)
 }
 
-// The first internal coupling of an owner from a component's port, from a place on.
+// The first internal coupling of an owner from a component's port, from a place on, or None.
 pub fn next_internal(
     state: &[u64],
     from: usize,
@@ -184,7 +184,7 @@ pub fn coupling_target(state: &[u64], coupling: usize) -> Target
     selection::coupling_target(couplings_in(state), coupling)
 }
 
-// The next connector from an id and port, with where it leads. `looked` is how many of them have been looked at.
+// The next connector from an id and port, with where it leads, or None. `looked` is how many of them have been looked at.
 pub fn next_connector(state: &[u64], looked: &mut usize, source: u64, port: u64) -> Option<Link>
     requires { Inside state.now }
     ensures { Finds (connects (connectors_in state.now) source port) (lead_at (connectors_in state.now)) (length (table_in state.now).connectors) looked.old result looked.new }

@@ -213,7 +213,7 @@ fn put_name(words: &mut [u64], k: usize, name: u64)
     words[128 + k] = unmade;
 }
 
-// Sets the clock on the job of that name, making it if it is new; how many names there are then.
+// Sets the clock on the job of that name, making it if it is new; how many names there are then. NoRoom for the 65th; CutShort where the words are cut short or more than 64 names are said to be held.
 pub fn set_mark(
     words: &mut [u64],
     held: u64,
@@ -239,7 +239,7 @@ pub fn set_mark(
     Ok(held + 1)
 }
 
-// The complete job of least or greatest stop less start, the first made among equals; or None.
+// The complete job of least or greatest stop less start, the first made among equals; or None, or CutShort.
 pub fn fetch(words: &[u64], held: u64, metric: Metric) -> Result<Option<u64>, CutShort>
     ensures { result ≡ fetched_in metric held words.now }
 {
@@ -249,7 +249,7 @@ pub fn fetch(words: &[u64], held: u64, metric: Metric) -> Result<Option<u64>, Cu
     Ok(fetch_from(words, held as usize, metric))
 }
 
-// The mean of the complete durations; or None where none is complete.
+// The mean of the complete durations; or None where none is complete, or CutShort.
 pub fn mean(words: &[u64], held: u64) -> Result<Option<f64>, CutShort>
     ensures { result ≡ mean_in held words.now }
 {

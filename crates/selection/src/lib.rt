@@ -101,7 +101,7 @@ fn next_child(models: &[u64], from: usize, parent: Option<u64>) -> Option<usize>
     None
 }
 
-// The next connector from this id and port, with where it leads. `looked` is how many have been looked at: the search goes on there.
+// The next connector from this id and port, with where it leads, or None. `looked` is how many have been looked at: the search goes on there.
 // kept: the loop counts `start`, the place times 4, by hand; ended by the place itself, it came out slower.
 pub fn next_connector(
     connectors: &[u64],
@@ -128,7 +128,7 @@ pub fn next_connector(
     None
 }
 
-// The next external input coupling of this owner, at this port.
+// The next external input coupling of this owner, at this port, or None.
 #[tactic(auto, using(crate::proofs::Searches::couplings))]
 pub fn next_input(couplings: &[u64], from: usize, owner: u64, port: u64) -> Option<usize>
     ensures { result ≡ first_from (is_input couplings.now owner port) from (couplings_in couplings.now - from) }
@@ -136,7 +136,7 @@ pub fn next_input(couplings: &[u64], from: usize, owner: u64, port: u64) -> Opti
     next_coupling(couplings, from, EXTERNAL_INPUT, owner, 3, port, port)
 }
 
-// The next external output coupling of this owner, from this component's port.
+// The next external output coupling of this owner, from this component's port, or None.
 #[tactic(auto, using(crate::proofs::Searches::couplings))]
 pub fn next_output(
     couplings: &[u64],
@@ -150,7 +150,7 @@ pub fn next_output(
     next_coupling(couplings, from, EXTERNAL_OUTPUT, owner, 2, source, port)
 }
 
-// The next internal coupling of this owner, from this component's port.
+// The next internal coupling of this owner, from this component's port, or None.
 #[tactic(auto, using(crate::proofs::Searches::couplings))]
 pub fn next_internal(
     couplings: &[u64],
@@ -175,7 +175,7 @@ pub fn coupling_target(couplings: &[u64], row: usize) -> Target
     }
 }
 
-// The next component of the Coupled with this id.
+// The next component of the Coupled with this id, or None.
 #[tactic(auto, using(crate::proofs::Searches::children))]
 pub fn next_component(models: &[u64], from: usize, owner: u64) -> Option<usize>
     ensures { result ≡ first_from (is_component models.now owner) from (rows_in models.now - from) }
@@ -183,7 +183,7 @@ pub fn next_component(models: &[u64], from: usize, owner: u64) -> Option<usize>
     next_child(models, from, Some(owner))
 }
 
-// The next model without parent.
+// The next model without parent, or None.
 #[tactic(auto, using(crate::proofs::Searches::children))]
 pub fn next_parentless(models: &[u64], from: usize) -> Option<usize>
     ensures { result ≡ first_from (is_free models.now) from (rows_in models.now - from) }
@@ -191,7 +191,7 @@ pub fn next_parentless(models: &[u64], from: usize) -> Option<usize>
     next_child(models, from, None)
 }
 
-// The next row with this id.
+// The next row with this id, or None.
 #[tactic(auto, using(crate::proofs::Searches::ids))]
 pub fn next_with_id(models: &[u64], from: usize, id: u64) -> Option<usize>
     ensures { result ≡ first_from (has_id models.now id) from (rows_in models.now - from) }
